@@ -1,0 +1,56 @@
+// Making a shape, and reading it.
+ghost use mathlib.Core.Path.{_≡_};
+ghost use lib.ListN.{length, getD};
+ghost use Rattle.std.specs.Results.{Cases};
+ghost use Rattle.model.specs.Sizes.{Ranges};
+ghost use Rattle.model.specs.Shapes.{features, targets};
+ghost use Rattle.model.specs.declared.refusal.Refusal.the-variants.{Shape as refused-shape};
+use super::super::refusal::Refusal;
+use super::super::sizes::Sizes;
+use super::Shape;
+
+impl Shape {
+    // The shape with these sizes; refused where a count or a size is outside its range.
+    pub fn new(feature_sizes: &[u16], target_sizes: &[u16]) -> Result<Shape, Refusal>
+        ensures { λ r. ⌜ Cases r (λ s. Ranges (now («feature_sizes» .entry)) (now («target_sizes» .entry)) × (features s ≡ now («feature_sizes» .entry)) × (targets s ≡ now («target_sizes» .entry))) (λ e. (e ≡ refused-shape) × (Ranges (now («feature_sizes» .entry)) (now («target_sizes» .entry)) → ⊥)) ⌝ }
+    {
+        if target_sizes.len() > 4 {
+            return Err(Refusal::Shape);
+        }
+        let Some(features) = Sizes::new(feature_sizes) else {
+            return Err(Refusal::Shape);
+        };
+        let Some(targets) = Sizes::new(target_sizes) else {
+            return Err(Refusal::Shape);
+        };
+        Ok(Shape { features, targets })
+    }
+
+    // How many features there are, 1 to 8.
+    pub fn feature_count(&self) -> usize
+        ensures { λ r. ⌜ r ≡ length (features (now (self .entry))) ⌝ }
+    {
+        self.features.count()
+    }
+
+    // How many targets there are, 1 to 4.
+    pub fn target_count(&self) -> usize
+        ensures { λ r. ⌜ r ≡ length (targets (now (self .entry))) ⌝ }
+    {
+        self.targets.count()
+    }
+
+    // The size of a feature, or 0 where there is none.
+    pub fn feature_size(&self, feature: usize) -> u8
+        ensures { λ r. ⌜ r ≡ getD (features (now (self .entry))) feature 0 ⌝ }
+    {
+        self.features.at(feature)
+    }
+
+    // The size of a target, or 0 where there is none.
+    pub fn target_size(&self, target: usize) -> u8
+        ensures { λ r. ⌜ r ≡ getD (targets (now (self .entry))) target 0 ⌝ }
+    {
+        self.targets.at(target)
+    }
+}

@@ -1,0 +1,43 @@
+// Making sizes from numbers, and reading them.
+ghost use mathlib.Core.Path.{_≡_};
+ghost use lib.ListN.{length, getD};
+ghost use Rattle.std.specs.Options.{Cases};
+ghost use Rattle.model.specs.Sizes.{Lawful};
+ghost use Rattle.model.specs.Shapes.{sizes-of};
+use super::Sizes;
+
+impl Sizes {
+    // The numbers as sizes, where there are one to eight of them and each is 2 to 8.
+    pub fn new(numbers: &[u16]) -> Option<Sizes>
+        ensures { λ r. ⌜ Cases r (Lawful 8 (now (numbers .entry)) → ⊥) (λ s. Lawful 8 (now (numbers .entry)) × (sizes-of s ≡ now (numbers .entry))) ⌝ }
+    {
+        if numbers.is_empty() || numbers.len() > 8 {
+            return None;
+        }
+        let mut values = [0u8; 8];
+        'sizes: for (i, n) in numbers.iter().enumerate() {
+            if *n < 2 || *n > 8 {
+                return None;
+            }
+            values[i] = *n as u8;
+        }
+        Some(Sizes {
+            values,
+            count: numbers.len(),
+        })
+    }
+
+    // How many there are.
+    pub fn count(&self) -> usize
+        ensures { λ r. ⌜ r ≡ length (sizes-of (now (self .entry))) ⌝ }
+    {
+        self.count
+    }
+
+    // The size at a place, or 0 beyond the last.
+    pub fn at(&self, i: usize) -> u8
+        ensures { λ r. ⌜ r ≡ getD (sizes-of (now (self .entry))) i 0 ⌝ }
+    {
+        if i < self.count { self.values[i] } else { 0 }
+    }
+}
