@@ -1,7 +1,11 @@
 pub mod Appending
+pub mod Bodies
 pub mod Exact
 pub mod Kinds
+pub mod Limits
+pub mod Memory
 pub mod Numbers
 pub mod Rows
+pub mod Rules
 pub mod Shapes
 pub mod Sizes

@@ -3,7 +3,7 @@ ghost use mathlib.Core.Path.{_≡_};
 ghost use lib.ListN.{length, getD};
 ghost use Rattle.std.specs.Results.{Cases};
 ghost use Rattle.model.specs.Sizes.{Ranges};
-ghost use Rattle.model.specs.Shapes.{features, targets};
+ghost use Rattle.model.specs.Shapes.{features, targets, cell-size};
 ghost use Rattle.model.specs.declared.refusal.Refusal.the-variants.{Shape as refused-shape};
 use super::super::refusal::Refusal;
 use super::super::sizes::Sizes;
@@ -40,6 +40,13 @@ impl Shape {
         self.targets.count()
     }
 
+    // The sizes of the features, in order.
+    pub fn feature_sizes(&self) -> &[u8]
+        ensures { λ r. ⌜ now r ≡ features (now (self .entry)) ⌝ }
+    {
+        self.features.as_slice()
+    }
+
     // The size of a feature, or 0 where there is none.
     pub fn feature_size(&self, feature: usize) -> u8
         ensures { λ r. ⌜ r ≡ getD (features (now (self .entry))) feature 0 ⌝ }
@@ -52,5 +59,16 @@ impl Shape {
         ensures { λ r. ⌜ r ≡ getD (targets (now (self .entry))) target 0 ⌝ }
     {
         self.targets.at(target)
+    }
+
+    // How many values a cell of a row may have: features in cells 0 to 7, targets in 8 to 11; 0 beyond the shape.
+    pub fn cell_size(&self, cell: usize) -> u8
+        ensures { λ r. ⌜ r ≡ cell-size (now (self .entry)) cell ⌝ }
+    {
+        if cell < 8 {
+            self.features.at(cell)
+        } else {
+            self.targets.at(cell - 8)
+        }
     }
 }

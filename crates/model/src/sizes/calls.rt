@@ -40,4 +40,11 @@ impl Sizes {
     {
         if i < self.count { self.values[i] } else { 0 }
     }
+
+    // All of them, in order.
+    pub fn as_slice(&self) -> &[u8]
+        ensures { λ r. ⌜ now r ≡ sizes-of (now (self .entry)) ⌝ }
+    {
+        &self.values[0..self.count]
+    }
 }
