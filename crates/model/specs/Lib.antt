@@ -5,7 +5,9 @@ pub mod Kinds
 pub mod Limits
 pub mod Memory
 pub mod Numbers
+pub mod Observations
 pub mod Rows
 pub mod Rules
 pub mod Shapes
 pub mod Sizes
+pub mod Strays

@@ -1,3 +1,4 @@
 pub mod Rest
+pub mod Scans
 pub mod Surveys
 pub mod Walks

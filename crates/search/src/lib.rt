@@ -1,6 +1,7 @@
 // Listing and forecasting, over any log and any condition kind.
 mod bodies;
 mod consistent;
+mod limits;
 mod optimal;
 mod rules;
 mod survey;

@@ -16,4 +16,5 @@ pub struct Survey {
     ghost room: { 65535 ≤ vec-cap seen },
 }
 
+mod rows;
 mod take;

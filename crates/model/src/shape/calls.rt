@@ -1,8 +1,9 @@
 // Making a shape, and reading it.
 ghost use mathlib.Core.Path.{_≡_};
+ghost use Prim.Native.Nat.{_≤_};
 ghost use lib.ListN.{length, getD};
 ghost use Rattle.std.specs.Results.{Cases};
-ghost use Rattle.model.specs.Sizes.{Ranges};
+ghost use Rattle.model.specs.Sizes.{Lawful, Ranges};
 ghost use Rattle.model.specs.Shapes.{features, targets, cell-size};
 ghost use Rattle.model.specs.declared.refusal.Refusal.the-variants.{Shape as refused-shape};
 use super::super::refusal::Refusal;
@@ -28,21 +29,24 @@ impl Shape {
 
     // How many features there are, 1 to 8.
     pub fn feature_count(&self) -> usize
-        ensures { λ r. ⌜ r ≡ length (features (now (self .entry))) ⌝ }
+        ensures value { λ r. ⌜ r ≡ length (features (now (self .entry))) ⌝ }
+        ensures bound { λ r. ⌜ (1 ≤ r) × (r ≤ 8) ⌝ }
     {
         self.features.count()
     }
 
     // How many targets there are, 1 to 4.
     pub fn target_count(&self) -> usize
-        ensures { λ r. ⌜ r ≡ length (targets (now (self .entry))) ⌝ }
+        ensures value { λ r. ⌜ r ≡ length (targets (now (self .entry))) ⌝ }
+        ensures bound { λ r. ⌜ (1 ≤ r) × (r ≤ 4) ⌝ }
     {
         self.targets.count()
     }
 
     // The sizes of the features, in order.
     pub fn feature_sizes(&self) -> &[u8]
-        ensures { λ r. ⌜ now r ≡ features (now (self .entry)) ⌝ }
+        ensures value { λ r. ⌜ now r ≡ features (now (self .entry)) ⌝ }
+        ensures lawful { λ r. ⌜ Lawful 8 (now r) ⌝ }
     {
         self.features.as_slice()
     }

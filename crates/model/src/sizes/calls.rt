@@ -1,5 +1,6 @@
 // Making sizes from numbers, and reading them.
 ghost use mathlib.Core.Path.{_≡_};
+ghost use Prim.Native.Nat.{_≤_};
 ghost use lib.ListN.{length, getD};
 ghost use Rattle.std.specs.Options.{Cases};
 ghost use Rattle.model.specs.Sizes.{Lawful};
@@ -29,7 +30,8 @@ impl Sizes {
 
     // How many there are.
     pub fn count(&self) -> usize
-        ensures { λ r. ⌜ r ≡ length (sizes-of (now (self .entry))) ⌝ }
+        ensures value { λ r. ⌜ r ≡ length (sizes-of (now (self .entry))) ⌝ }
+        ensures bound { λ r. ⌜ (1 ≤ r) × (r ≤ 8) × (r ≡ now (self .entry) .count) ⌝ }
     {
         self.count
     }
@@ -43,7 +45,8 @@ impl Sizes {
 
     // All of them, in order.
     pub fn as_slice(&self) -> &[u8]
-        ensures { λ r. ⌜ now r ≡ sizes-of (now (self .entry)) ⌝ }
+        ensures value { λ r. ⌜ now r ≡ sizes-of (now (self .entry)) ⌝ }
+        ensures lawful { λ r. ⌜ Lawful 8 (now r) ⌝ }
     {
         &self.values[0..self.count]
     }

@@ -1,55 +1,27 @@
 // Taking the survey of a log.
+ghost use mathlib.Core.Path.{_≡_};
 ghost use Prim.Native.Nat.{_+_, _<_, _≤_};
 ghost use lib.ListN.{length};
-ghost use Rattle.std.specs.Of.Vec.{vec-len};
+ghost use Rattle.std.specs.Of.Vec.{vec-items, vec-len};
 ghost use Rattle.std.specs.Options.{Cases};
+ghost use Rattle.std.specs.Results.{Cases as ByOk};
+ghost use Rattle.std.specs.shelf.Lists.{All};
+ghost use Rattle.model.specs.Strays.{Lawful-row, First-stray};
+ghost use Rattle.search.specs.Surveys.{marked, surveyed, Unseen, Seen-at};
 use super::Seen;
 use super::Survey;
+use super::rows::cells_of;
+use super::rows::scan;
+use super::rows::state_of;
 use model::Log;
 use model::Shape;
 use model::Stray;
 use std::alloc::AllocError;
 use std::alloc::Global;
 
-// The cells of a row, read once.
-fn cells_of<L: Log>(log: &L, row: usize) -> [u8; 12] {
-    let mut cells = [0u8; 12];
-    'cells: for cell in 0..12 {
-        cells[cell] = log.cell(row, cell);
-    }
-    cells
-}
-
-// The first cell of the shape that is not below its size is a fault.
-fn scan(shape: &Shape, row: usize, cells: &[u8; 12]) -> Result<(), Stray>
-    requires { ⌜ row < 65535 ⌝ }
-{
-    'cells: for cell in 0..12usize {
-        let size = shape.cell_size(cell);
-        if size > 0 && cells[cell] >= size {
-            return Err(Stray {
-                row: row as u16,
-                cell: cell as u8,
-            });
-        }
-    }
-    Ok(())
-}
-
-// The feature cells of a row as a state, with 0 beyond the shape.
-fn state_of(shape: &Shape, cells: &[u8; 12]) -> [u8; 8] {
-    let mut state = [0u8; 8];
-    'features: for feature in 0..8usize {
-        if feature < shape.feature_count() {
-            state[feature] = cells[feature];
-        }
-    }
-    state
-}
-
 // Where a state stands among those seen.
 fn find(seen: &[Seen], state: &[u8; 8]) -> Option<usize>
-    ensures { λ r. ⌜ Cases r (Unit {0}) (λ i. i < length (now (seen .entry))) ⌝ }
+    ensures { λ r. ⌜ Cases r (Unseen (now (seen .entry)) (now (state .entry)) (length (now (seen .entry)))) (Seen-at (now (seen .entry)) (now (state .entry))) ⌝ }
 {
     'seen: for (i, s) in seen.iter().enumerate() {
         if s.state == *state {
@@ -75,6 +47,7 @@ impl Survey {
         value: u8,
     ) -> Result<(), Stray>
         requires { ⌜ target < 4 ⌝ }
+        ensures { λ r. ⌜ ByOk r (λ _. All (Lawful-row (now (shape .entry))) (L·Log .rows (now (log .entry))) × (vec-items (now (self .exit) .seen) ≡ surveyed (now (shape .entry)) target value (L·Log .rows (now (log .entry))))) (First-stray (now (shape .entry)) (L·Log .rows (now (log .entry)))) ⌝ }
     {
         self.seen.clear();
         'rows: for row in 0..log.count() {
@@ -89,7 +62,8 @@ impl Survey {
     // One more row: its state, and whether it has the head's value.
     fn mark(&mut self, state: [u8; 8], with_head: bool)
         requires { ⌜ vec-len (now self .seen) < 65535 ⌝ }
-        ensures { λ _. ⌜ vec-len (now (self .exit) .seen) ≤ vec-len (now (self .entry) .seen) + 1 ⌝ }
+        ensures items { λ _. ⌜ vec-items (now (self .exit) .seen) ≡ marked (vec-items (now (self .entry) .seen)) state «with_head» ⌝ }
+        ensures len { λ _. ⌜ vec-len (now (self .exit) .seen) ≤ vec-len (now (self .entry) .seen) + 1 ⌝ }
     {
         match find(&self.seen, &state) {
             Some(i) => {
@@ -103,7 +77,10 @@ impl Survey {
         }
     }
 
-    pub(crate) fn seen(&self) -> &[Seen] {
+    // What the last survey found.
+    pub(crate) fn seen(&self) -> &[Seen]
+        ensures { λ r. ⌜ now r ≡ vec-items (now (self .entry) .seen) ⌝ }
+    {
         &self.seen
     }
 }
