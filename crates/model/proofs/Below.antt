@@ -29,3 +29,8 @@ each-below-fails (suc n) k test lt bad =
       | inl e ↦ ap (λ (t : Bool). t && each-below n test) (ap test (sym e) ∙ bad)
       | inr ne ↦ ap (λ (t : Bool). test n && t) (each-below-fails n k test (omega arith) bad) ∙ and-false (test n)
     ]
+
+pub each-below-same : (n : ℕ) (test other : ℕ → Bool) → ((k : ℕ) → k < n → test k ≡ other k) → each-below n test ≡ each-below n other
+each-below-same zero test other same = refl
+each-below-same (suc n) test other same =
+    ap (λ (t : Bool). t && each-below n test) (same n (omega arith)) ∙ ap (λ (t : Bool). other n && t) (each-below-same n test other (λ k h. same k (omega arith)))

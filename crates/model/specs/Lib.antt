@@ -1,8 +1,11 @@
 pub mod Appending
 pub mod Bodies
 pub mod Exact
+pub mod Forecasts
+pub mod Heads
 pub mod Kinds
 pub mod Limits
+pub mod Listed
 pub mod Memory
 pub mod Numbers
 pub mod Observations

@@ -1,5 +1,6 @@
 // The subject's own words: shapes, rows, refusals, senses, and the contracts that condition kinds, logs and intakes keep.
 mod exact;
+mod head;
 mod intake;
 mod kind;
 mod log;
@@ -11,6 +12,7 @@ mod sizes;
 
 pub use exact::Exact;
 pub use exact::ExactKind;
+pub use head::Head;
 pub use intake::Intake;
 pub use kind::Kind;
 pub use log::Log;

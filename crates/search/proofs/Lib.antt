@@ -1,7 +1,9 @@
+pub mod Clears
+pub mod Counts
+pub mod Listings
+pub mod Marks
+pub mod Padding
+pub mod Scans
 pub mod Steps
 pub mod Walks
-pub mod Clears
 pub mod Writes
-pub mod Counts
-pub mod Marks
-pub mod Scans

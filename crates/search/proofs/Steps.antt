@@ -43,12 +43,6 @@ module _ (m : Meaning) where
   body-first (n ∷ ns) [] h k = absurd k
   body-first (n ∷ ns) (c ∷ b) h k = k .0
 
-  pub length-body : (ns b : List ℕ) → Body m ns b → length b ≡ length ns
-  length-body [] [] k = refl
-  length-body [] (c ∷ b) k = absurd k
-  length-body (n ∷ ns) [] k = absurd k
-  length-body (n ∷ ns) (c ∷ b) k = ap suc (length-body ns b (k .1))
-
   pub advanced-none : (ns b : List ℕ) → length ns ≡ 0 → Body m ns b → Advanced m ns b b false
   advanced-none [] [] h k = record { body = tt; next = refl; over = λ _. refl }
   advanced-none [] (c ∷ b) h k = absurd k

@@ -17,7 +17,8 @@ use Rattle.search.specs.Surveys.{best}
 use Rattle.search.specs.Walks.{start, left, Walking, to-find, places}
 use Rattle.search.specs.declared.survey.Seen.{Seen}
 use Rattle.search.specs.declared.walk.Walk.{Walk}
-use Rattle.search.proofs.Steps.{length-body, rest-open}
+use Rattle.model.proofs.Bodies.{length-body}
+use Rattle.search.proofs.Steps.{rest-open}
 
 -- what a walk stands at is in its place
 pub place-walking : (m : Meaning) (ns : List ℕ) (w : Walk) → length ns ≤ 8 → Walking m ns w → w .body ≡ place (take (length ns) (w .body))

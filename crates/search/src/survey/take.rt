@@ -79,7 +79,8 @@ impl Survey {
 
     // What the last survey found.
     pub(crate) fn seen(&self) -> &[Seen]
-        ensures { λ r. ⌜ now r ≡ vec-items (now (self .entry) .seen) ⌝ }
+        ensures value { λ r. ⌜ now r ≡ vec-items (now (self .entry) .seen) ⌝ }
+        ensures bound { λ r. ⌜ length (now r) ≤ 65535 ⌝ }
     {
         &self.seen
     }

@@ -2,7 +2,8 @@ use borrow.Author.Needs.{needs}
 use Prim.Native.Nat.{_<_}
 use lib.ListN.{length}
 use Rattle.std.proofs.shelf.Tests.{eqb-true, eqb-false}
-use Rattle.search.proofs.Steps.{body-later, length-body, advanced-none, advanced-later, advanced-first, advanced-over}
+use Rattle.model.proofs.Bodies.{length-body}
+use Rattle.search.proofs.Steps.{body-later, advanced-none, advanced-later, advanced-first, advanced-over}
 use Rattle.search.proofs.bodies.+advance.Needs as need
 
 pub returns-then-is-empty : need.returns-then-is-empty
