@@ -7,6 +7,7 @@ pub mod Kinds
 pub mod Limits
 pub mod Listed
 pub mod Memory
+pub mod Notes
 pub mod Numbers
 pub mod Observations
 pub mod Rows
@@ -14,3 +15,4 @@ pub mod Rules
 pub mod Shapes
 pub mod Sizes
 pub mod Strays
+pub mod Values

@@ -1,13 +1,9 @@
 // Forecasting an outcome for a state.
 ghost use mathlib.Core.Path.{_≡_};
-ghost use Prim.Native.Nat.{_≤_, _*_};
-ghost use lib.ListN.{length, take};
-ghost use Rattle.std.specs.Results.{Cases};
-ghost use Rattle.model.specs.Forecasts.{percentage, Known-state, Forecasted};
-ghost use Rattle.model.specs.Sizes.{Lawful};
+ghost use Prim.Native.Nat.{_≤_};
+ghost use Rattle.model.specs.Forecasts.{percentage, Forecasted};
 ghost use Rattle.model.specs.declared.sense.Sense.the-variants.{Can, Cannot};
 ghost use Rattle.search.specs.Found.{best-matching};
-ghost use Rattle.model.specs.declared.refusal.Refusal.the-variants.{State};
 use super::heads::known_head;
 use super::limits::within_limits;
 use super::survey::Survey;
@@ -19,24 +15,6 @@ use model::Refusal;
 use model::Sense;
 use model::Shape;
 use model::StrayRefusal;
-
-// A state as one value for each feature, with 0 beyond them; refused where its length or a value is wrong.
-fn known_state(sizes: &[u8], state: &[u16]) -> Result<[u8; 8], Refusal>
-    requires { ⌜ Lawful 8 (now sizes) ⌝ }
-    ensures { λ r. ⌜ Cases r (λ v. Known-state (now (sizes .entry)) (now (state .entry)) × (length v ≡ 8) × (take (length (now (sizes .entry))) v ≡ now (state .entry))) (λ e. (e ≡ State) × (Known-state (now (sizes .entry)) (now (state .entry)) → ⊥)) ⌝ }
-{
-    if state.len() != sizes.len() {
-        return Err(Refusal::State);
-    }
-    let mut known = [0u8; 8];
-    'features: for (i, value) in state.iter().enumerate() {
-        if *value >= u16::from(sizes[i]) {
-            return Err(Refusal::State);
-        }
-        known[i] = *value as u8;
-    }
-    Ok(known)
-}
 
 // The share of the weight that is for the head, in whole percent rounded down; 50 where there is no weight at all.
 fn share(pro: u32, contra: u32) -> u32
@@ -62,7 +40,9 @@ pub fn forecast<K: Kind, L: Log>(
 {
     let (target, value) = known_head(shape, head)?;
     let sizes = shape.feature_sizes();
-    let known = known_state(sizes, state)?;
+    let Some(known) = shape.state(state) else {
+        return Err(Refusal::State);
+    };
     within_limits::<K>(sizes)?;
     survey.take(shape, log, target, value)?;
     let seen = survey.seen();

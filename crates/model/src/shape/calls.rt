@@ -5,6 +5,7 @@ ghost use lib.ListN.{length, getD};
 ghost use Rattle.std.specs.Results.{Cases};
 ghost use Rattle.model.specs.Sizes.{Lawful, Ranges};
 ghost use Rattle.model.specs.Shapes.{features, targets, cell-size};
+ghost use Rattle.model.specs.Values.{Decoded};
 ghost use Rattle.model.specs.declared.refusal.Refusal.the-variants.{Shape as refused-shape};
 use super::super::refusal::Refusal;
 use super::super::sizes::Sizes;
@@ -74,5 +75,19 @@ impl Shape {
         } else {
             self.targets.at(cell - 8)
         }
+    }
+
+    // A state: one value for each feature, with 0 beyond them; none where the numbers are not the values of one.
+    pub fn state(&self, numbers: &[u16]) -> Option<[u8; 8]>
+        ensures { λ r. ⌜ Decoded (features (now (self .entry))) (now (numbers .entry)) r ⌝ }
+    {
+        self.features.values(numbers)
+    }
+
+    // An outcome: one value for each target, with 0 beyond them; none where the numbers are not the values of one.
+    pub fn outcome(&self, numbers: &[u16]) -> Option<[u8; 8]>
+        ensures { λ r. ⌜ Decoded (targets (now (self .entry))) (now (numbers .entry)) r ⌝ }
+    {
+        self.targets.values(numbers)
     }
 }

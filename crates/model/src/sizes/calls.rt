@@ -5,6 +5,7 @@ ghost use lib.ListN.{length, getD};
 ghost use Rattle.std.specs.Options.{Cases};
 ghost use Rattle.model.specs.Sizes.{Lawful};
 ghost use Rattle.model.specs.Shapes.{sizes-of};
+ghost use Rattle.model.specs.Values.{Decoded};
 use super::Sizes;
 
 impl Sizes {
@@ -49,5 +50,22 @@ impl Sizes {
         ensures lawful { λ r. ⌜ Lawful 8 (now r) ⌝ }
     {
         &self.values[0..self.count]
+    }
+
+    // One value for each size, as bytes with 0 beyond the last; none where their number or one of them does not fit.
+    pub fn values(&self, numbers: &[u16]) -> Option<[u8; 8]>
+        ensures { λ r. ⌜ Decoded (sizes-of (now (self .entry))) (now (numbers .entry)) r ⌝ }
+    {
+        if numbers.len() != self.count {
+            return None;
+        }
+        let mut values = [0u8; 8];
+        'numbers: for (i, n) in numbers.iter().enumerate() {
+            if *n >= u16::from(self.values[i]) {
+                return None;
+            }
+            values[i] = *n as u8;
+        }
+        Some(values)
     }
 }

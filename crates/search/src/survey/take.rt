@@ -1,10 +1,12 @@
 // Taking the survey of a log.
 ghost use mathlib.Core.Path.{_≡_};
+ghost use mathlib.Core.List.{[]};
 ghost use Prim.Native.Nat.{_+_, _<_, _≤_};
 ghost use lib.ListN.{length};
 ghost use Rattle.std.specs.Of.Vec.{vec-items, vec-len};
 ghost use Rattle.std.specs.Options.{Cases};
 ghost use Rattle.std.specs.Results.{Cases as ByOk};
+ghost use Rattle.std.specs.Vec.{made};
 ghost use Rattle.std.specs.shelf.Lists.{All};
 ghost use Rattle.model.specs.Strays.{Lawful-row, First-stray};
 ghost use Rattle.search.specs.Surveys.{marked, surveyed, Unseen, Seen-at};
@@ -33,7 +35,9 @@ fn find(seen: &[Seen], state: &[u8; 8]) -> Option<usize>
 
 impl Survey {
     // Room for the survey of any log.
-    pub fn new(heap: Global) -> Result<Survey, AllocError> {
+    pub fn new(heap: Global) -> Result<Survey, AllocError>
+        ensures { λ r. ⌜ made r (λ s. vec-items (s .seen) ≡ []) ⌝ }
+    {
         let seen = Vec::with_capacity(heap, 65535)?;
         Ok(Survey { seen })
     }
