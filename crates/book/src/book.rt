@@ -10,8 +10,8 @@ use std::marker::PhantomData;
 // start, so that no call allocates.
 #[derive(Drop)]
 pub struct Book<K: Kind + Drop, L: Log + Drop> {
-    pub(crate) shape: Shape,
-    pub(crate) log: L,
+    pub shape: Shape,
+    pub log: L,
     pub(crate) survey: Survey,
     kind: PhantomData<K>,
 }

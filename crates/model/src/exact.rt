@@ -4,6 +4,7 @@ ghost use Rattle.model.specs.Exact.{exact, in-range};
 use super::kind::Kind;
 
 // Code 0 is any value, and 1 + v is equality with v.
+#[derive(Clone, Copy)]
 pub struct Exact;
 
 fn takes(size: u8) -> bool

@@ -1,6 +1,7 @@
 // Making a shape, and reading it.
 ghost use mathlib.Core.Path.{_≡_};
 ghost use Prim.Native.Nat.{_≤_};
+ghost use mathlib.Core.List.{_∷_, []};
 ghost use lib.ListN.{length, getD};
 ghost use Rattle.std.specs.Results.{Cases};
 ghost use Rattle.model.specs.Sizes.{Lawful, Ranges};
@@ -26,6 +27,17 @@ impl Shape {
             return Err(Refusal::Shape);
         };
         Ok(Shape { features, targets })
+    }
+
+    // The smallest shape there is: one feature and one target, of two values each.
+    pub fn smallest() -> Shape
+        ensures features { λ r. ⌜ features r ≡ 2 ∷ [] ⌝ }
+        ensures targets { λ r. ⌜ targets r ≡ 2 ∷ [] ⌝ }
+    {
+        Shape {
+            features: Sizes::single(),
+            targets: Sizes::single(),
+        }
     }
 
     // How many features there are, 1 to 8.

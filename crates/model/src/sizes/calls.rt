@@ -1,6 +1,7 @@
 // Making sizes from numbers, and reading them.
 ghost use mathlib.Core.Path.{_≡_};
 ghost use Prim.Native.Nat.{_≤_};
+ghost use mathlib.Core.List.{_∷_, []};
 ghost use lib.ListN.{length, getD};
 ghost use Rattle.std.specs.Options.{Cases};
 ghost use Rattle.model.specs.Sizes.{Lawful};
@@ -27,6 +28,17 @@ impl Sizes {
             values,
             count: numbers.len(),
         })
+    }
+
+    // One size, of two values.
+    pub fn single() -> Sizes
+        ensures value { λ r. ⌜ sizes-of r ≡ 2 ∷ [] ⌝ }
+        ensures count { λ r. ⌜ r .count ≡ 1 ⌝ }
+    {
+        Sizes {
+            values: [2, 0, 0, 0, 0, 0, 0, 0],
+            count: 1,
+        }
     }
 
     // How many there are.

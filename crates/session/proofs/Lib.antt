@@ -1,0 +1,5 @@
+pub mod Emits
+pub mod Fields
+pub mod Runs
+pub mod Signs
+pub mod Unique

@@ -1,0 +1,11 @@
+// The session: lines read into forms, done on a book, and answered in text.
+mod desk;
+mod digits;
+mod form;
+mod numbers;
+mod page;
+mod reader;
+mod running;
+
+pub use running::Done;
+pub use running::Session;
