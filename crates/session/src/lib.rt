@@ -8,4 +8,6 @@ mod reader;
 mod running;
 
 pub use running::Done;
+pub use running::DoneDebug;
+pub use running::DonePartialEq;
 pub use running::Session;
