@@ -1,3 +1,4 @@
+pub mod Desks
 pub mod Forms
 pub mod Lines
 pub mod Lists

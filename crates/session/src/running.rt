@@ -1,6 +1,11 @@
 // Running the lines of an input.
-ghost use Prim.Native.Nat.{_≤_};
+ghost use mathlib.Core.Path.{_≡_};
+ghost use Prim.Native.Nat.{_≤_, _<_};
 ghost use lib.ListN.{length};
+ghost use Rattle.std.specs.Vec.{made};
+ghost use Rattle.std.specs.declared.result.Result.the-variants.{Err};
+ghost use Rattle.model.specs.declared.refusal.Refusal.the-variants.{Output};
+ghost use Rattle.session.specs.Desks.{Unbegun};
 ghost use Rattle.session.specs.Outputs.{Answered};
 use super::desk::Desk;
 use super::numbers::Numbers;
@@ -45,7 +50,9 @@ fn line_end(input: &[u8], from: usize) -> usize
 
 impl Session {
     // A session that has done no line.
-    pub fn new(heap: Global) -> Result<Session, AllocError> {
+    pub fn new(heap: Global) -> Result<Session, AllocError>
+        ensures { λ r. ⌜ made r (λ s. Unbegun (s .desk)) ⌝ }
+    {
         let numbers = Numbers::new(heap)?;
         let desk = Desk::new(heap)?;
         Ok(Session { numbers, desk })
@@ -53,7 +60,8 @@ impl Session {
 
     // Does the lines of an input one after another, and writes what they print to the front of the output.
     pub fn run(&mut self, input: &[u8], output: &mut [u8]) -> Result<Done, Refusal>
-        ensures { λ r. ⌜ Answered (now (output .entry)) (now (output .exit)) r ⌝ }
+        ensures written { λ r. ⌜ Answered (now (output .entry)) (now (output .exit)) r ⌝ }
+        ensures too_long { λ r. ⌜ (65536 < length (now (input .entry)) → r ≡ Err (Output 0 0)) ⌝ }
     {
         let mut written = 0;
         let mut lines = 0;

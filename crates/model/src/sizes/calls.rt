@@ -11,7 +11,7 @@ use super::Sizes;
 
 impl Sizes {
     // The numbers as sizes, where there are one to eight of them and each is 2 to 8.
-    pub fn new(numbers: &[u16]) -> Option<Sizes>
+    pub(crate) fn new(numbers: &[u16]) -> Option<Sizes>
         ensures { λ r. ⌜ Cases r (Lawful 8 (now (numbers .entry)) → ⊥) (λ s. Lawful 8 (now (numbers .entry)) × (sizes-of s ≡ now (numbers .entry))) ⌝ }
     {
         if numbers.is_empty() || numbers.len() > 8 {
@@ -31,7 +31,7 @@ impl Sizes {
     }
 
     // One size, of two values.
-    pub fn single() -> Sizes
+    pub(crate) fn single() -> Sizes
         ensures value { λ r. ⌜ sizes-of r ≡ 2 ∷ [] ⌝ }
         ensures count { λ r. ⌜ r .count ≡ 1 ⌝ }
     {
@@ -42,7 +42,7 @@ impl Sizes {
     }
 
     // How many there are.
-    pub fn count(&self) -> usize
+    pub(crate) fn count(&self) -> usize
         ensures value { λ r. ⌜ r ≡ length (sizes-of (now (self .entry))) ⌝ }
         ensures bound { λ r. ⌜ (1 ≤ r) × (r ≤ 8) × (r ≡ now (self .entry) .count) ⌝ }
     {
@@ -50,14 +50,14 @@ impl Sizes {
     }
 
     // The size at a place, or 0 beyond the last.
-    pub fn at(&self, i: usize) -> u8
+    pub(crate) fn at(&self, i: usize) -> u8
         ensures { λ r. ⌜ r ≡ getD (sizes-of (now (self .entry))) i 0 ⌝ }
     {
         if i < self.count { self.values[i] } else { 0 }
     }
 
     // All of them, in order.
-    pub fn as_slice(&self) -> &[u8]
+    pub(crate) fn as_slice(&self) -> &[u8]
         ensures value { λ r. ⌜ now r ≡ sizes-of (now (self .entry)) ⌝ }
         ensures lawful { λ r. ⌜ Lawful 8 (now r) ⌝ }
     {
@@ -65,7 +65,7 @@ impl Sizes {
     }
 
     // One value for each size, as bytes with 0 beyond the last; none where their number or one of them does not fit.
-    pub fn values(&self, numbers: &[u16]) -> Option<[u8; 8]>
+    pub(crate) fn values(&self, numbers: &[u16]) -> Option<[u8; 8]>
         ensures { λ r. ⌜ Decoded (sizes-of (now (self .entry))) (now (numbers .entry)) r ⌝ }
     {
         if numbers.len() != self.count {

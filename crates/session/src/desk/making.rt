@@ -1,4 +1,6 @@
 // Making a desk.
+ghost use Rattle.std.specs.Vec.{made};
+ghost use Rattle.session.specs.Desks.{Unbegun};
 use super::super::numbers::Numbers;
 use super::super::page::Page;
 use super::Desk;
@@ -16,7 +18,9 @@ const MEMORY: usize = 65_536;
 
 impl Desk {
     // No sizes stored, and no book made.
-    pub(crate) fn new(heap: Global) -> Result<Desk, AllocError> {
+    pub(crate) fn new(heap: Global) -> Result<Desk, AllocError>
+        ensures { λ r. ⌜ made r Unbegun ⌝ }
+    {
         let stored = Numbers::new(heap)?;
         let survey = Survey::new(heap)?;
         let log = PackedLog::new(vec![in heap; 0; MEMORY]?);
