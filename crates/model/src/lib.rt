@@ -1,4 +1,5 @@
 // The subject's own words: shapes, rows, refusals, senses, and the contracts that condition kinds, logs and intakes keep.
+mod band;
 mod exact;
 mod head;
 mod intake;
@@ -9,7 +10,10 @@ mod row;
 mod sense;
 mod shape;
 mod sizes;
+pub mod theory;
 
+pub use band::Band;
+pub use band::BandKind;
 pub use exact::Exact;
 pub use exact::ExactKind;
 pub use head::Head;
