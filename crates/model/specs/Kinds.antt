@@ -12,10 +12,6 @@ pub record Meaning : Type 0 where
   pub weaker : ℕ → ℕ → ℕ → Bool
   pub pin : ℕ → ℕ → ℕ
 
-module _ (m : Meaning) (size : ℕ) where
-  abbrev pub Code : ℕ → Type 0
-  Code c = c < m .conditions size
-
 -- The laws at one size.
 pub record Fair (m : Meaning) (size : ℕ) : Type 0 where
   -- there are 1 to 127 conditions

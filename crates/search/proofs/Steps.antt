@@ -38,11 +38,6 @@ module _ (m : Meaning) where
   body-later (n ∷ ns) [] h k = absurd k
   body-later (n ∷ ns) (c ∷ b) h k = rw (later-cons n ns, later-cons c b) (k .1)
 
-  pub body-first : (ns b : List ℕ) → 0 < length ns → Body m ns b → getD b 0 0 < m .conditions (getD ns 0 0)
-  body-first [] b h k = absurd (not-suc-le-zero h)
-  body-first (n ∷ ns) [] h k = absurd k
-  body-first (n ∷ ns) (c ∷ b) h k = k .0
-
   pub advanced-none : (ns b : List ℕ) → length ns ≡ 0 → Body m ns b → Advanced m ns b b false
   advanced-none [] [] h k = record { body = tt; next = refl; over = λ _. refl }
   advanced-none [] (c ∷ b) h k = absurd k
@@ -59,11 +54,6 @@ module _ (m : Meaning) where
       let some : 0 < m .conditions n = omega (arith, k .0) in
       ap (λ (bs : List (List ℕ)). map (λ b. 0 ∷ b) bs ++ starting m ns 1 (m .conditions n - 1)) (rest-open ns b (k .1))
       ∙ sym (starting-first ns 0 (m .conditions n) some)
-
-  pub body-open : (ns b : List ℕ) → Body m ns b → Body m ns (replicate (length ns) 0)
-  body-open [] b k = tt
-  body-open (n ∷ ns) [] k = absurd k
-  body-open (n ∷ ns) (c ∷ b) k = (omega (arith, k .0), body-open ns b (k .1))
 
   -- a later condition was stepped on
   pub advanced-later : (ns b after : List ℕ) → 0 < length ns → Body m ns b → Advanced m (later ns) (later b) after true → Advanced m ns b (putMid 1 (length b - 1) b after) true

@@ -54,19 +54,6 @@ module _ (m : Meaning) (ns : List ℕ) (w : Walk) (after : List ℕ) (more : Boo
       ∙ ap (λ (b : List ℕ). b ∷ cond more (rest m ns after) []) here
       ∙ ap (λ (b : List ℕ). take (length ns) (w .body) ∷ cond more (rest m ns b) []) (sym front)
 
-module _ (m : Meaning) (ns : List ℕ) (sense : Sense) (seen : List Seen) (v w : Walk) (b : List ℕ) (next : left m ns v ≡ b ∷ left m ns w) where
-  -- the body that was passed is no rule
-  pub to-find-passed : best m ns sense seen b ≡ false → to-find m ns sense seen v ≡ to-find m ns sense seen w
-  to-find-passed no-rule =
-      ap (λ (bs : List (List ℕ)). map place (kept-by (best m ns sense seen) bs)) next
-      ∙ ap (λ (t : Bool). map place (cond t (b ∷ kept-by (best m ns sense seen) (left m ns w)) (kept-by (best m ns sense seen) (left m ns w)))) no-rule
-
-  -- the body that was passed is a rule
-  pub to-find-found : best m ns sense seen b ≡ true → to-find m ns sense seen v ≡ place b ∷ to-find m ns sense seen w
-  to-find-found rule =
-      ap (λ (bs : List (List ℕ)). map place (kept-by (best m ns sense seen) bs)) next
-      ∙ ap (λ (t : Bool). map place (cond t (b ∷ kept-by (best m ns sense seen) (left m ns w)) (kept-by (best m ns sense seen) (left m ns w)))) rule
-
 module _ (m : Meaning) (ns : List ℕ) (few : length ns ≤ 8) (bare : Body m ns (replicate (length ns) 0)) where
   zeros-front : take {A = ℕ} (length ns) (replicate 8 0) ≡ replicate (length ns) 0
   zeros-front = take-replicate (length ns) 8 0 few

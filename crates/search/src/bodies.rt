@@ -23,14 +23,3 @@ pub(crate) fn advance<K: Kind>(sizes: &[u8], body: &mut [u8]) -> bool
         false
     }
 }
-
-// How many conditions there are up to the last that is not open.
-pub(crate) fn depth(body: &[u8]) -> usize {
-    let mut upto = 0;
-    'conditions: for (i, code) in body.iter().enumerate() {
-        if *code != 0 {
-            upto = i + 1;
-        }
-    }
-    upto
-}
