@@ -1,4 +1,6 @@
 // The subject's own words: shapes, rows, refusals, senses, and the contracts that condition kinds, logs and intakes keep.
+#![tactic(auto)]
+
 mod band;
 mod exact;
 mod head;

@@ -12,8 +12,8 @@ returns-then-size-widest g c = (
   λ listable. let narrow = All-get_or (λ n. n ≤ g.K.Kind.meaning.largest) c.args.sizes.now c.sizes.size-index 0 c.sizes-test.true listable.0 in omega arith,
 )
 
-pub overflow-mul-bodies : goal.overflow-mul-bodies
-overflow-mul-bodies g c =
+pub overflow_mul-bodies : goal.overflow_mul-bodies
+overflow_mul-bodies g c =
     let byte : c.from-bodies.result ≤ 255 = search rules in
     let small : c.sizes.bodies * c.from-bodies.result ≤ 1000000 * 255 = mul-le-mul c.sizes.invariant.0 byte in
     search rules

@@ -10,5 +10,5 @@ rules-init g c =
       zero-add _ ∙ ap length (to_find_start m ns c.requires.few c.requires.bare c.args.opposed.now c.new-walk.result c.new-walk.ensures),
     )
 
-pub overflow-add-found : goal.overflow-add-found
-overflow-add-found g c = let few = length_places_le g.K.Kind.meaning c.args.sizes.now c.args.opposed.now in search rules
+pub overflow_add-found : goal.overflow_add-found
+overflow_add-found g c = let few = length_places_le g.K.Kind.meaning c.args.sizes.now c.args.opposed.now in search rules
