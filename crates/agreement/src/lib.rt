@@ -1,4 +1,6 @@
 // Agreement: the same questions put to two books.
+#![tactic(auto)]
+
 mod answers;
 mod comparing;
 mod questions;

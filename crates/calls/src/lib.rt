@@ -1,4 +1,6 @@
 // Calls for a program in C or Rust that links this library: one call lists over the bytes of an image.
+#![tactic(auto)]
+
 mod answer;
 #[cfg(test)]
 mod examples;

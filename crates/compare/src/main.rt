@@ -1,4 +1,6 @@
 // Compares the book's listings and forecasts with those that trying every body gives, on random logs.
+#![tactic(auto)]
+
 mod asking;
 mod bodies;
 mod cases;

@@ -1,4 +1,6 @@
 // Logs over the bytes of an image: formatting and checking an image, and the packed log.
+#![tactic(auto)]
+
 mod image;
 mod packed;
 

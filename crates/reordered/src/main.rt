@@ -1,6 +1,8 @@
 // The bookkeeper's question: under which conditions does the exchange discard an invoice?
 // Every discard came from a busy supplier whose message sequence had just wrapped to zero, and no other message showed
 // either sign. So two rules are equally true; both are printed, with what would tell them apart.
+#![tactic(auto)]
+
 mod backwards;
 mod exchange;
 mod words;

@@ -1,4 +1,6 @@
 // The program: a session of standard input, printed to standard output.
+#![tactic(auto)]
+
 use model::Refusal;
 use session::Session;
 use std::io::{Read, Write};

@@ -1,4 +1,6 @@
 // Whole runs of calls on a book, and what they tell of the states that were noted.
+#![tactic(auto)]
+
 mod calls;
 mod entry;
 

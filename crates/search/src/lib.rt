@@ -1,4 +1,6 @@
 // Listing and forecasting, over any log and any condition kind.
+#![tactic(auto)]
+
 mod bodies;
 mod consistent;
 mod forecasting;

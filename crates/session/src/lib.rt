@@ -1,4 +1,6 @@
 // The session: lines read into forms, done on a book, and answered in text.
+#![tactic(auto)]
+
 mod desk;
 mod digits;
 mod form;

@@ -1,4 +1,6 @@
 // Tests of the library as a caller meets it: whole sessions, images, and listings at the edges.
+#![tactic(auto)]
+
 #[cfg(test)]
 mod images;
 #[cfg(test)]

@@ -18,10 +18,10 @@ questions-preserved g c =
     let log = ap g.L.Log.rows inv.1 in
     let log' = ap g.M.Log.rows inv.3 in
     let inside : i < length asked = search rules in (
-      c.ask.ensures.first-shape ∙ inv.0,
-      c.ask.ensures.first-log ∙ inv.1,
-      c.ask.ensures.second-shape ∙ inv.2,
-      c.ask.ensures.second-log ∙ inv.3,
+      c.ask.ensures.first_shape ∙ inv.0,
+      c.ask.ensures.first_log ∙ inv.1,
+      c.ask.ensures.second_shape ∙ inv.2,
+      c.ask.ensures.second_log ∙ inv.3,
       questions_set asked c.args.questions.now i q _ inside inv.4 c.ask.ensures.question,
       leave_more m first.shape _ _ _ asked i q _ _ _ inside inv.0 log inv.5 c.ask.ensures.left,
       leave_more m second.shape _ _ _ asked i q _ _ _ inside inv.2 log' inv.6 c.ask.ensures.right,
@@ -42,10 +42,10 @@ returns g c =
     let whole : take c.questions.i asked ≡ asked = take_all c.questions.i asked (search rules) in
     let alike : All (Right m first.shape second.shape rows rows' room room') asked = subst (All (Right m first.shape second.shape rows rows' room room')) whole inv.7 in
     record {
-      first-shape = inv.0;
-      first-log = inv.1;
-      second-shape = inv.2;
-      second-log = inv.3;
+      first_shape = inv.0;
+      first_log = inv.1;
+      second_shape = inv.2;
+      second_log = inv.3;
       questions = inv.4;
       left = subst (λ (qs : List Asked). Leave m first.shape rows qs c.args.left.now c.questions.left) whole inv.5;
       right = subst (λ (qs : List Asked). Leave m second.shape rows' qs c.args.right.now c.questions.right) whole inv.6;

@@ -5,9 +5,9 @@ use Rattle.agreement.proofs.comparing.forecasts_alike.Goals as goal
 pub returns : goal.returns
 returns g c =
     record {
-      first-shape = search rules;
-      first-log = search rules;
-      second-shape = search rules;
-      second-log = search rules;
-      alike = decides_forecast g.K.Kind.meaning c.args.first.now.shape c.args.second.now.shape (g.L.Log.rows c.args.first.now.log) (g.M.Log.rows c.args.second.now.log) c.args.head c.args.state.now c.forecast-one.result c.forecast-other.result c.same-forecast.result c.forecast-one.ensures.answer c.forecast-other.ensures.answer c.same-forecast.ensures;
+      first_shape = search rules;
+      first_log = search rules;
+      second_shape = search rules;
+      second_log = search rules;
+      alike = decides_forecast g.K.Kind.meaning c.args.first.now.shape c.args.second.now.shape (g.L.Log.rows c.args.first.now.log) (g.M.Log.rows c.args.second.now.log) c.args.head c.args.state.now c.forecast-one.result c.forecast-other.result c.same_forecast.result c.forecast-one.ensures.answer c.forecast-other.ensures.answer c.same_forecast.ensures;
     }

@@ -4,8 +4,8 @@ use Rattle.model.proofs.Bodies.{length_body}
 use Rattle.search.proofs.Steps.{body_later, advanced_none, advanced_later, advanced_first, advanced_over}
 use Rattle.search.proofs.bodies.+advance.Goals as goal
 
-pub returns-then-is-empty : goal.returns-then-is-empty
-returns-then-is-empty g t c = advanced_none g.K.Kind.meaning c.args.sizes.now c.args.body.now (search (rules, eqb-true)) c.requires
+pub returns-then-is_empty : goal.returns-then-is_empty
+returns-then-is_empty g t c = advanced_none g.K.Kind.meaning c.args.sizes.now c.args.body.now (search (rules, eqb-true)) c.requires
 
 pub advance-requires : goal.advance-requires
 advance-requires g t c κs within =

@@ -18,15 +18,15 @@ overflow_mul-bodies g c =
     let small : c.sizes.bodies * c.from-bodies.result ≤ 1000000 * 255 = mul-le-mul c.sizes.invariant.0 byte in
     search rules
 
-pub returns-then-bodies-gt-MOST-BODIES : goal.returns-then-bodies-gt-MOST-BODIES
-returns-then-bodies-gt-MOST-BODIES g c =
+pub returns-then-bodies-gt-MOST_BODIES : goal.returns-then-bodies-gt-MOST_BODIES
+returns-then-bodies-gt-MOST_BODIES g c =
     let m = g.K.Kind.meaning in
     let ns = c.args.sizes.now in
     let i = c.sizes.size-index in
     let here = c.from-bodies.ensures ∙ c.conditions.ensures in
     let so_far : c.sizes.bodies * c.from-bodies.result * body_count m (drop (i + 1) ns) ≡ body_count m ns =
     ap (λ (k : ℕ). c.sizes.bodies * k * body_count m (drop (i + 1) ns)) here ∙ count_more m ns c.sizes.bodies i c.sizes-test.true c.sizes.invariant.2 in
-    (refl, too_many m g.met.K.Kind.lawful ns (c.sizes.bodies * c.from-bodies.result) (i + 1) c.requires c.if-bodies-gt-MOST-BODIES.true so_far)
+    (refl, too_many m g.met.K.Kind.lawful ns (c.sizes.bodies * c.from-bodies.result) (i + 1) c.requires c.if-bodies-gt-MOST_BODIES.true so_far)
 
 pub sizes-preserved : goal.sizes-preserved
 sizes-preserved g c =
@@ -34,7 +34,7 @@ sizes-preserved g c =
     let ns = c.args.sizes.now in
     let i = c.sizes.size-index in
     let here = c.from-bodies.ensures ∙ c.conditions.ensures in (
-      c.if-bodies-gt-MOST-BODIES.false,
+      c.if-bodies-gt-MOST_BODIES.false,
       All-more (λ n. n ≤ m.largest) ns i 0 c.sizes-test.true c.sizes.invariant.1 (omega arith),
       ap (λ (k : ℕ). c.sizes.bodies * k * body_count m (drop (i + 1) ns)) here ∙ count_more m ns c.sizes.bodies i c.sizes-test.true c.sizes.invariant.2,
     )

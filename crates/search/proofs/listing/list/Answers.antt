@@ -9,32 +9,32 @@ pub count-many-requires : goal.count-many-requires
 count-many-requires g c =
     let m = g.K.Kind.meaning in
     let laws = g.met.K.Kind.lawful in
-    let ns = c.feature-sizes-sizes.result.now in
+    let ns = c.feature_sizes-sizes.result.now in
     record {
       few = search rules;
-      sized = c.feature-sizes-sizes.ensures.lawful.2;
-      bare = listable_bare m laws ns c.feature-sizes-sizes.ensures.lawful c.in-ok-within-limits.ensures;
-      bound = listable_bound m laws ns c.feature-sizes-sizes.ensures.lawful c.in-ok-within-limits.ensures;
+      sized = c.feature_sizes-sizes.ensures.lawful.2;
+      bare = listable_bare m laws ns c.feature_sizes-sizes.ensures.lawful c.in_ok-within_limits.ensures;
+      bound = listable_bound m laws ns c.feature_sizes-sizes.ensures.lawful c.in_ok-within_limits.ensures;
     }
 
 pub returns-then-many-rules : goal.returns-then-many-rules
 returns-then-many-rules g c =
     let m = g.K.Kind.meaning in
     let s = c.args.shape.now in
-    let ns = c.feature-sizes-sizes.result.now in
+    let ns = c.feature_sizes-sizes.result.now in
     let seen = vec_items c.take.new.self.seen in
     let told = c.opposed-opposed.ensures ∙ c.oppose.ensures.value in
     let rows = g.L.Log.rows c.args.log.now in
-    let t : ℕ = c.in-ok-target.target in
-    let v : ℕ = c.in-ok-target.value in
+    let t : ℕ = c.in_ok-target.target in
+    let v : ℕ = c.in_ok-target.value in
     let asked : Asked m s rows c.args.head ns seen t v = record {
-      sizes = c.feature-sizes-sizes.ensures.value;
-      survey = c.in-ok-take.ensures.1;
-      target = c.in-ok-target.ensures.1;
-      value = c.in-ok-target.ensures.2;
-      known = c.in-ok-target.ensures.0;
-      lawful = c.feature-sizes-sizes.ensures.lawful;
-      listable = c.in-ok-within-limits.ensures;
+      sizes = c.feature_sizes-sizes.ensures.value;
+      survey = c.in_ok-take.ensures.1;
+      target = c.in_ok-target.ensures.1;
+      value = c.in_ok-target.ensures.2;
+      known = c.in_ok-target.ensures.0;
+      lawful = c.feature_sizes-sizes.ensures.lawful;
+      listable = c.in_ok-within_limits.ensures;
       twelve = g.met.L.Log.twelve c.args.log.now;
     } in
     let many : c.count-many.result ≡ length (rules_of m s rows c.args.head c.args.sense) = c.count-many.ensures ∙ length_places m g.met.K.Kind.lawful s rows c.args.head ns seen t v asked c.args.sense c.opposed-opposed.result.now told in
@@ -44,7 +44,7 @@ returns-then-many-rules g c =
         (
           asked.known,
           subst (Listable m) asked.sizes asked.listable,
-          c.in-ok-take.ensures.0,
+          c.in_ok-take.ensures.0,
           many,
           omega (arith, many, c.if-many-rules.true),
         ),
@@ -55,11 +55,11 @@ returns-then-many-rules g c =
 pub write-requires : goal.write-requires
 write-requires g c =
     let m = g.K.Kind.meaning in
-    let ns = c.feature-sizes-sizes.result.now in
+    let ns = c.feature_sizes-sizes.result.now in
     record {
       few = search rules;
-      sized = c.feature-sizes-sizes.ensures.lawful.2;
-      bare = listable_bare m g.met.K.Kind.lawful ns c.feature-sizes-sizes.ensures.lawful c.in-ok-within-limits.ensures;
+      sized = c.feature_sizes-sizes.ensures.lawful.2;
+      bare = listable_bare m g.met.K.Kind.lawful ns c.feature_sizes-sizes.ensures.lawful c.in_ok-within_limits.ensures;
       room = omega (arith, c.count-many.ensures, c.if-many-rules.false);
     }
 
@@ -70,20 +70,20 @@ returns g c =
     let s = c.args.shape.now in
     let h = c.args.head in
     let sense = c.args.sense in
-    let ns = c.feature-sizes-sizes.result.now in
+    let ns = c.feature_sizes-sizes.result.now in
     let seen = vec_items c.take.new.self.seen in
     let told = c.opposed-opposed.ensures ∙ c.oppose.ensures.value in
     let rows = g.L.Log.rows c.args.log.now in
-    let t : ℕ = c.in-ok-target.target in
-    let v : ℕ = c.in-ok-target.value in
+    let t : ℕ = c.in_ok-target.target in
+    let v : ℕ = c.in_ok-target.value in
     let asked : Asked m s rows h ns seen t v = record {
-      sizes = c.feature-sizes-sizes.ensures.value;
-      survey = c.in-ok-take.ensures.1;
-      target = c.in-ok-target.ensures.1;
-      value = c.in-ok-target.ensures.2;
-      known = c.in-ok-target.ensures.0;
-      lawful = c.feature-sizes-sizes.ensures.lawful;
-      listable = c.in-ok-within-limits.ensures;
+      sizes = c.feature_sizes-sizes.ensures.value;
+      survey = c.in_ok-take.ensures.1;
+      target = c.in_ok-target.ensures.1;
+      value = c.in_ok-target.ensures.2;
+      known = c.in_ok-target.ensures.0;
+      lawful = c.feature_sizes-sizes.ensures.lawful;
+      listable = c.in_ok-within_limits.ensures;
       twelve = g.met.L.Log.twelve c.args.log.now;
     } in
     let many : c.count-many.result ≡ length (rules_of m s rows h sense) = c.count-many.ensures ∙ length_places m laws s rows h ns seen t v asked sense c.opposed-opposed.result.now told in
@@ -91,7 +91,7 @@ returns g c =
     let listed : ListedWhole m s rows h sense c.args.rules.now _ (Ok c.count-many.result) = (
       asked.known,
       subst (Listable m) asked.sizes asked.listable,
-      c.in-ok-take.ensures.0,
+      c.in_ok-take.ensures.0,
       many,
       omega (arith, many, c.if-many-rules.false),
       memory,

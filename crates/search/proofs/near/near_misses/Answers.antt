@@ -8,10 +8,10 @@ use Rattle.search.proofs.near.near_misses.Goals.{then-row-i-lt8, else-row-i-lt8}
 pub rows-init : goal.rows-init
 rows-init g c = (refl, noted_none g.K.Kind.meaning c.args.sizes.now c.args.body.now)
 
-pub rows-preserved-in-default : goal.rows-preserved-in-default
-rows-preserved-in-default g c = (
+pub rows-preserved-in_default : goal.rows-preserved-in_default
+rows-preserved-in_default g c = (
   c.rows.invariant.0,
-  noted_more_beside g.K.Kind.meaning c.args.sizes.now c.args.body.now c.args.opposed.now c.rows.near c.rows.row-index [] c.rows-test.true c.rows.invariant.1 c.in-default.ensures,
+  noted_more_beside g.K.Kind.meaning c.args.sizes.now c.args.body.now c.args.opposed.now c.rows.near c.rows.row-index [] c.rows-test.true c.rows.invariant.1 c.in_default.ensures,
 )
 
 pub rows-preserved : goal.rows-preserved

@@ -27,7 +27,7 @@ rules-preserved g c =
     let room : at + 8 ≤ length c.rules.rules = let n = so_far.count in omega (arith, c.requires.room, c.rules.auto.rules) in
     let more = writing_more all ahead c.args.rules.now c.rules.rules c.in-Some.rule at (at + 8 - at) (omega arith) c.in-Some.ensures.over room so_far in (
       c.next.ensures.walking,
-      subst (λ (p : List ℕ). Writing all ahead c.args.rules.now (put_mid at (at + 8 - at) c.rules.rules p) (at + 8)) (sym c.copy-from-slice.ensures.after) more,
+      subst (λ (p : List ℕ). Writing all ahead c.args.rules.now (put_mid at (at + 8 - at) c.rules.rules p) (at + 8)) (sym c.copy_from_slice.ensures.after) more,
     )
 
 pub returns : goal.returns
@@ -36,5 +36,5 @@ returns g c =
     let ns = c.args.sizes.now in
     let all = places m ns c.args.opposed.now in
     let done : Writing all [] c.args.rules.now c.rules.rules c.rules.at =
-    subst (λ (ps : List (List ℕ)). Writing all ps c.args.rules.now c.rules.rules c.rules.at) (c.in-default.ensures.value ∙ c.in-default.ensures.over) c.rules.invariant.1 in
+    subst (λ (ps : List (List ℕ)). Writing all ps c.args.rules.now c.rules.rules c.rules.at) (c.in_default.ensures.value ∙ c.in_default.ensures.over) c.rules.invariant.1 in
     writing_all all c.args.rules.now c.rules.rules c.rules.at done

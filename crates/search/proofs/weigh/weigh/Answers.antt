@@ -4,14 +4,14 @@ use Rattle.std.proofs.lemmas.List.Sums.{count_by_more_yes, count_by_more_no}
 use Rattle.search.specs.Weights.{counts}
 use Rattle.search.proofs.Marks.{no_seen}
 use Rattle.search.proofs.weigh.weigh.Goals as goal
-use Rattle.search.proofs.weigh.weigh.Goals.{then-is-counted, else-is-counted}
+use Rattle.search.proofs.weigh.weigh.Goals.{then-is_counted, else-is_counted}
 
 pub seen-preserved : goal.seen-preserved
 seen-preserved g c =
     let counted = counts g.K.Kind.meaning c.args.sizes.now c.args.sense c.args.body.now in
-    elim c.if-is-counted.branch [
-      | then-is-counted w ↦ let more = count_by_more_yes counted c.args.seen.now c.seen.s-index no_seen c.seen-test.true (sym w.if-is-counted.ensures) in (omega (arith, w.count-is), omega (arith, w.count-is))
-      | else-is-counted w ↦ let more = count_by_more_no counted c.args.seen.now c.seen.s-index no_seen c.seen-test.true (sym w.if-is-counted.ensures) in (omega (arith, w.count-is), omega (arith, w.count-is))
+    elim c.if-is_counted.branch [
+      | then-is_counted w ↦ let more = count_by_more_yes counted c.args.seen.now c.seen.s-index no_seen c.seen-test.true (sym w.if-is_counted.ensures) in (omega (arith, w.count-is), omega (arith, w.count-is))
+      | else-is_counted w ↦ let more = count_by_more_no counted c.args.seen.now c.seen.s-index no_seen c.seen-test.true (sym w.if-is_counted.ensures) in (omega (arith, w.count-is), omega (arith, w.count-is))
     ]
 
 pub returns : goal.returns

@@ -5,27 +5,27 @@ use Rattle.session.proofs.Fields.{two_split}
 use Rattle.session.proofs.Signs.{signed_places, asks_front, no_ask}
 use Rattle.session.proofs.reader.read_ask.Goals as goal
 
-pub returns-in-err-front : goal.returns-in-err-front
-returns-in-err-front c = rw c.from-residual.ensures (λ short t v sense asks. c.in-err-front.ensures (fields (t ∷ v ∷ [])) sense asks.1)
+pub returns-in_err-front : goal.returns-in_err-front
+returns-in_err-front c = rw c.from-residual.ensures (λ short t v sense asks. c.in_err-front.ensures (fields (t ∷ v ∷ [])) sense asks.1)
 
-pub returns-in-err-read-list : goal.returns-in-err-read-list
-returns-in-err-read-list c =
+pub returns-in_err-read_list : goal.returns-in_err-read_list
+returns-in_err-read_list c =
     let bytes = c.args.text.now in
-    let front = c.in-ok-front.front.now in
-    let signed = c.in-ok-front.ensures in
-    let long = (signed_places bytes front c.in-ok-front.sense signed).0 in
-    rw c.from-residual-in-err-read-list.ensures (λ short t v sense asks. c.in-err-read-list.ensures (omega (arith, ltb-true, ltb-false)) (t ∷ v ∷ []) (asks_front bytes front c.in-ok-front.sense signed t v sense asks))
+    let front = c.in_ok-front.front.now in
+    let signed = c.in_ok-front.ensures in
+    let long = (signed_places bytes front c.in_ok-front.sense signed).0 in
+    rw c.from-residual-in_err-read_list.ensures (λ short t v sense asks. c.in_err-read_list.ensures (omega (arith, ltb-true, ltb-false)) (t ∷ v ∷ []) (asks_front bytes front c.in_ok-front.sense signed t v sense asks))
 
 pub returns-in-len2 : goal.returns-in-len2
 returns-in-len2 c =
-    let ns = c.in-ok-read-list.field-0.now in
-    let front = c.in-ok-front.front.now in
-    let ending : List ℕ = 32 ∷ sign_of c.in-ok-front.sense ∷ [] in
-    let lists = subst (λ (xs : List ℕ). Lists front xs) (two_split ns (omega (arith, ltb-true, ltb-false))) c.in-ok-read-list.ensures in
-    (lists.0, c.in-ok-front.ensures ∙ ap (λ (xs : List ℕ). xs ++ ending) lists.1)
+    let ns = c.in_ok-read_list.field-0.now in
+    let front = c.in_ok-front.front.now in
+    let ending : List ℕ = 32 ∷ sign_of c.in_ok-front.sense ∷ [] in
+    let lists = subst (λ (xs : List ℕ). Lists front xs) (two_split ns (omega (arith, ltb-true, ltb-false))) c.in_ok-read_list.ensures in
+    (lists.0, c.in_ok-front.ensures ∙ ap (λ (xs : List ℕ). xs ++ ending) lists.1)
 
 pub returns-then-branch-lt2 : goal.returns-then-branch-lt2
-returns-then-branch-lt2 c = λ short. no_ask c.args.text.now c.in-ok-front.front.now c.in-ok-read-list.field-0.now c.in-ok-front.sense c.in-ok-front.ensures c.in-ok-read-list.ensures (λ h. omega (arith, ltb-true, ltb-false))
+returns-then-branch-lt2 c = λ short. no_ask c.args.text.now c.in_ok-front.front.now c.in_ok-read_list.field-0.now c.in_ok-front.sense c.in_ok-front.ensures c.in_ok-read_list.ensures (λ h. omega (arith, ltb-true, ltb-false))
 
 pub returns-else-this-lt3 : goal.returns-else-this-lt3
-returns-else-this-lt3 c = λ short. no_ask c.args.text.now c.in-ok-front.front.now c.in-ok-read-list.field-0.now c.in-ok-front.sense c.in-ok-front.ensures c.in-ok-read-list.ensures (λ h. omega (arith, ltb-true, ltb-false))
+returns-else-this-lt3 c = λ short. no_ask c.args.text.now c.in_ok-front.front.now c.in_ok-read_list.field-0.now c.in_ok-front.sense c.in_ok-front.ensures c.in_ok-read_list.ensures (λ h. omega (arith, ltb-true, ltb-false))

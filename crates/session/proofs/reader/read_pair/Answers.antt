@@ -4,11 +4,11 @@ use Rattle.session.specs.Lines.{Lists}
 use Rattle.session.proofs.Fields.{no_pair, pair_split}
 use Rattle.session.proofs.reader.read_pair.Goals as goal
 
-pub returns-in-err-read-list : goal.returns-in-err-read-list
-returns-in-err-read-list c = rw c.from-residual.ensures (λ short a b ns. c.in-err-read-list.ensures short (a ∷ b ∷ ns))
+pub returns-in_err-read_list : goal.returns-in_err-read_list
+returns-in_err-read_list c = rw c.from-residual.ensures (λ short a b ns. c.in_err-read_list.ensures short (a ∷ b ∷ ns))
 
-pub returns-in-default : goal.returns-in-default
-returns-in-default c = λ short. no_pair c.args.text.now c.in-ok-read-list.field-0.now c.in-ok-read-list.ensures (omega (arith, ltb-true, ltb-false))
+pub returns-in_default : goal.returns-in_default
+returns-in_default c = λ short. no_pair c.args.text.now c.in_ok-read_list.field-0.now c.in_ok-read_list.ensures (omega (arith, ltb-true, ltb-false))
 
 pub returns-in-len2-up : goal.returns-in-len2-up
-returns-in-len2-up c = subst (λ (ns : List ℕ). Lists c.args.text.now ns) (pair_split c.in-ok-read-list.field-0.now (omega (arith, ltb-true, ltb-false))) c.in-ok-read-list.ensures
+returns-in-len2-up c = subst (λ (ns : List ℕ). Lists c.args.text.now ns) (pair_split c.in_ok-read_list.field-0.now (omega (arith, ltb-true, ltb-false))) c.in_ok-read_list.ensures

@@ -22,18 +22,18 @@ returns-then-used-places c = (
 )
 
 -- the sizes that the header tells are those of no shape
-pub returns-in-default : goal.returns-in-default
-returns-in-default c = (refl, λ s d. c.in-default.ensures.1 (simp (sub-zero, c.sizes.ensures, c.sizes-2.ensures) (ranges_told c.args.bytes.now s d.0 d.1.starts)))
+pub returns-in_default : goal.returns-in_default
+returns-in_default c = (refl, λ s d. c.in_default.ensures.1 (simp (sub-zero, c.sizes.ensures, c.sizes-2.ensures) (ranges_told c.args.bytes.now s d.0 d.1.starts)))
 
-pub returns-then-starts-with : goal.returns-then-starts-with
-returns-then-starts-with c =
+pub returns-then-starts_with : goal.returns-then-starts_with
+returns-then-starts_with c =
     let b = c.args.bytes.now in
-    let same = starts_told b c.in-Ok.shape c.used-used.result c.header.result c.starts-with.result c.header.ensures c.starts-with.ensures.value in
-    (c.used-used.result, record { long = omega arith; short = omega arith; within = omega arith; starts = same.0 c.if-starts-with.true })
+    let same = starts_told b c.in-Ok.shape c.used-used.result c.header.result c.starts_with.result c.header.ensures c.starts_with.ensures.value in
+    (c.used-used.result, record { long = omega arith; short = omega arith; within = omega arith; starts = same.0 c.if-starts_with.true })
 
 -- another shape's header would tell the same sizes
-pub returns-else-starts-with : goal.returns-else-starts-with
-returns-else-starts-with c = (
+pub returns-else-starts_with : goal.returns-else-starts_with
+returns-else-starts_with c = (
   refl,
   λ s d.
       let b = c.args.bytes.now in
@@ -41,6 +41,6 @@ returns-else-starts-with c = (
       let fs : features s ≡ features c.in-Ok.shape = sym (features_told b s d.0 d.1.starts) ∙ simp (new.1, sub-zero, c.sizes.ensures) in
       let ts : targets s ≡ targets c.in-Ok.shape = sym (targets_told b s d.0 d.1.starts) ∙ simp (new.2, sub-zero, c.sizes-2.ensures) in
       let rows : d.0 ≡ c.used-used.result = sym (used_told b s d.0 d.1.starts) ∙ sym c.used-used.ensures in
-      let same = starts_told b c.in-Ok.shape c.used-used.result c.header.result c.starts-with.result c.header.ensures c.starts-with.ensures.value in
-      both_ways c.starts-with.result c.if-starts-with.false (same.1 (d.1.starts ∙ (ap (header_of s) rows ∙ same_header s c.in-Ok.shape c.used-used.result fs ts))),
+      let same = starts_told b c.in-Ok.shape c.used-used.result c.header.result c.starts_with.result c.header.ensures c.starts_with.ensures.value in
+      both_ways c.starts_with.result c.if-starts_with.false (same.1 (d.1.starts ∙ (ap (header_of s) rows ∙ same_header s c.in-Ok.shape c.used-used.result fs ts))),
 )

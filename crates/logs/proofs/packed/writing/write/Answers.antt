@@ -6,4 +6,4 @@ use Rattle.logs.proofs.packed.writing.write.Goals as goal
 pub returns : goal.returns
 returns c =
     let sixteen = length_bytes_of c.args.row (omega arith) in
-    put_put_mid c.args.bytes.now c.args.slot (bytes_of c.args.row) c.requires sixteen _ c.copy-from-slice.new.self (omega arith) (c.copy-from-slice.ensures.after ∙ c.packed.ensures)
+    put_put_mid c.args.bytes.now c.args.slot (bytes_of c.args.row) c.requires sixteen _ c.copy_from_slice.new.self (omega arith) (c.copy_from_slice.ensures.after ∙ c.packed.ensures)

@@ -6,7 +6,7 @@ use Rattle.search.specs.declared.survey.Seen.{Seen}
 use Rattle.search.specs.declared.survey.Survey.{Survey}
 use Rattle.search.proofs.Opposed.{against_more_yes, against_more_no}
 use Rattle.search.proofs.survey.Survey.oppose.Goals as goal
-use Rattle.search.proofs.survey.Survey.oppose.Goals.{then-is-against, else-is-against}
+use Rattle.search.proofs.survey.Survey.oppose.Goals.{then-is_against, else-is_against}
 
 pub seen-preserved : goal.seen-preserved
 seen-preserved c =
@@ -17,19 +17,19 @@ seen-preserved c =
     let within : i < length seen = search rules in
     let Picked : Survey → Type 0 =
     λ s. (vec_items s.seen ≡ vec_items c.args.self.now.seen) × (vec_len s.opposed ≤ i + 1) × (vec_items s.opposed ≡ states_against sense (take (i + 1) (vec_items s.seen))) in
-    elim c.if-is-against.branch [
-      | then-is-against w ↦ subst Picked (sym w.self-is) (
+    elim c.if-is_against.branch [
+      | then-is_against w ↦ subst Picked (sym w.self-is) (
         c.seen.invariant.0,
-        omega (arith, w.push-reserved.ensures.len, c.seen.invariant.1),
-        w.push-reserved.ensures.items
+        omega (arith, w.push_reserved.ensures.len, c.seen.invariant.1),
+        w.push_reserved.ensures.items
             ∙ ap (λ (vs : List (List ℕ)). vs ++ here.state ∷ []) c.seen.invariant.2
             ∙ ap (λ (s : Seen). states_against sense (take i seen) ++ s.state ∷ []) c.index.ensures
-            ∙ sym (against_more_yes sense seen i here within (ap (against sense) (sym c.index.ensures) ∙ sym w.if-is-against.ensures)),
+            ∙ sym (against_more_yes sense seen i here within (ap (against sense) (sym c.index.ensures) ∙ sym w.if-is_against.ensures)),
       )
-      | else-is-against w ↦ subst Picked (sym w.self-is) (
+      | else-is_against w ↦ subst Picked (sym w.self-is) (
         c.seen.invariant.0,
         omega (arith, c.seen.invariant.1),
-        c.seen.invariant.2 ∙ sym (against_more_no sense seen i here within (ap (against sense) (sym c.index.ensures) ∙ sym w.if-is-against.ensures)),
+        c.seen.invariant.2 ∙ sym (against_more_no sense seen i here within (ap (against sense) (sym c.index.ensures) ∙ sym w.if-is_against.ensures)),
       )
     ]
 

@@ -13,4 +13,4 @@ padded cells ys k n twelve few e copied =
 
 pub returns : goal.returns
 returns c =
-    padded c.args.cells.now c.copy-from-slice.new.self (c.feature-count-count.result - 0) (length (features c.args.shape.now)) (search rules) (search rules) (search rules) c.copy-from-slice.ensures.after
+    padded c.args.cells.now c.copy_from_slice.new.self (c.feature_count-count.result - 0) (length (features c.args.shape.now)) (search rules) (search rules) (search rules) c.copy_from_slice.ensures.after

@@ -14,11 +14,11 @@ returns-then-text-at-ne-SPACE c = λ short. no_space c.args.text.now (numbers_of
 pub returns-then-len-ge-ROOM : goal.returns-then-len-ge-ROOM
 returns-then-len-ge-ROOM c = λ short ns lists. omega arith
 
-pub returns-in-default : goal.returns-in-default
-returns-in-default c =
+pub returns-in_default : goal.returns-in_default
+returns-in_default c =
     let bytes = c.args.text.now in
     let at = c.fields.at in
-    let none : NoNumber (drop (at + 1) bytes) = subst NoNumber (take_rest bytes (at + 1)) c.in-default.ensures in
+    let none : NoNumber (drop (at + 1) bytes) = subst NoNumber (take_rest bytes (at + 1)) c.in_default.ensures in
     λ short. no_field bytes (numbers_of c.fields.self) at c.fields.invariant.0 (omega arith) none
 
 pub fields-preserved : goal.fields-preserved
@@ -29,7 +29,7 @@ fields-preserved c =
     let digits = c.in-Some.digits in
     let begins : Begins (drop (at + 1) bytes) n digits = subst (λ (xs : List ℕ). Begins xs n digits) (take_rest bytes (at + 1)) c.in-Some.ensures in
     let some = begins_some (drop (at + 1) bytes) n digits begins in (
-      left_more bytes (numbers_of c.fields.self) at n digits (vec_items c.push-reserved.new.self) c.push-reserved.ensures.items c.fields.invariant.0 (omega arith) c.if-text-at-ne-SPACE.false begins,
+      left_more bytes (numbers_of c.fields.self) at n digits (vec_items c.push_reserved.new.self) c.push_reserved.ensures.items c.fields.invariant.0 (omega arith) c.if-text-at-ne-SPACE.false begins,
       omega arith,
     )
 

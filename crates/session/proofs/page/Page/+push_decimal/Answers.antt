@@ -6,8 +6,8 @@ use Rattle.session.proofs.page.Page.+push_decimal.Goals as goal
 pub push-requires : goal.push-requires
 push-requires t c = search (rules, decimal_digit)
 
-pub push-decimal-requires : goal.push-decimal-requires
-push-decimal-requires t c = search (rules, decimal_step, length_push)
+pub push_decimal-requires : goal.push_decimal-requires
+push_decimal-requires t c = search (rules, decimal_step, length_push)
 
 pub push-requires-else-number-lt10 : goal.push-requires-else-number-lt10
 push-requires-else-number-lt10 t c = search (rules, decimal_step, length_push)

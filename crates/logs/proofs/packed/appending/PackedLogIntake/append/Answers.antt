@@ -13,9 +13,9 @@ returns c =
     let b = vec_items v in
     let row = c.args.row in
     let twelve : Twelve row = omega arith in
-    let whole = with_items_is v c.append.new.bytes (c.append.auto.bytes ∙ c.as-mut-slice.ensures.len) in
-    let verdict = rw c.as-mut-slice.ensures.value at c.append.ensures.verdict in
-    let after : vec_items (with_items v c.append.new.bytes) ≡ cond (is_ok c.append.result) (written b row) b = whole ∙ (rw c.as-mut-slice.ensures.value at c.append.ensures.after) in
+    let whole = with_items_is v c.append.new.bytes (c.append.auto.bytes ∙ c.as_mut_slice.ensures.len) in
+    let verdict = rw c.as_mut_slice.ensures.value at c.append.ensures.verdict in
+    let after : vec_items (with_items v c.append.new.bytes) ≡ cond (is_ok c.append.result) (written b row) b = whole ∙ (rw c.as_mut_slice.ensures.value at c.append.ensures.after) in
     let P : List ℕ → Type 0 = λ a. StaysImage b a (cond (is_ok c.append.result) 1 0) in
     record {
       verdict = verdict;
