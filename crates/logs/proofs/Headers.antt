@@ -1,6 +1,6 @@
 -- What the first 32 bytes of an image tell: the counts, the sizes and the rows used. Assumes nothing.
-use Rattle.std.proofs.Common.{◌≡◌, ℕ, ◌+◌, ◌<◌, ◌≤◌, Bool, List, length, get_or, take, drop, replicate, Decides, sym, refl, ap, ◌∙◌, subst, arith}
-use Rattle.std.specs.Cmp.Lexicographic.{Matches}
+use Rattle.std.proofs.Common.{◌≡◌, ℕ, ◌+◌, ◌<◌, ◌≤◌, eqb, Bool, List, length, get_or, take, drop, replicate, Decides, sym, refl, ap, ◌∙◌, subst, arith}
+use Rattle.std.specs.List.{starts_with}
 use Rattle.std.proofs.lemmas.Slice.Eq.{slice_eq-Decides}
 use Rattle.std.proofs.lemmas.List.{get_or-take, drop-take, take-take, take-append-le}
 use Rattle.std.proofs.lemmas.List.FromFn.{take-map-range_with_len, fill_by_all}
@@ -53,7 +53,7 @@ pub same_header : (s t : Shape) (rows : ℕ) → features s ≡ features t → t
 same_header s t rows p q = rw (p, q)
 
 -- a test of the first bytes against a header tells whether they are that header
-pub starts_told : (b : List ℕ) (s : Shape) (rows : ℕ) (p : List ℕ) (r : Bool) → p ≡ header_of s rows → Matches (λ (x y : ℕ) (t : Bool). Decides t (x ≡ y)) p (take (length p) b) r → Decides r (take 32 b ≡ header_of s rows)
+pub starts_told : (b : List ℕ) (s : Shape) (rows : ℕ) (p : List ℕ) (r : Bool) → p ≡ header_of s rows → r ≡ starts_with eqb b p → Decides r (take 32 b ≡ header_of s rows)
 starts_told b s rows p r e m =
-    let P : List ℕ → Type 0 = λ q. Matches (λ (x y : ℕ) (t : Bool). Decides t (x ≡ y)) q (take (length q) b) r in
+    let P : List ℕ → Type 0 = λ q. r ≡ starts_with eqb b q in
     let d = slice_eq-Decides Decides-eqb (header_of s rows) (take 32 b) r (subst P e m) in (λ t. sym (d.0 t), λ h. d.1 (sym h))

@@ -6,7 +6,7 @@ use Rattle.session.proofs.Signs.{signed_places, asks_front, no_ask}
 use Rattle.session.proofs.reader.read_ask.Goals as goal
 
 pub returns-in_err-front : goal.returns-in_err-front
-returns-in_err-front c = rw c.from-residual.ensures (λ short t v sense asks. c.in_err-front.ensures (fields (t ∷ v ∷ [])) sense asks.1)
+returns-in_err-front c = rw c.from_residual.ensures (λ short t v sense asks. c.in_err-front.ensures (fields (t ∷ v ∷ [])) sense asks.1)
 
 pub returns-in_err-read_list : goal.returns-in_err-read_list
 returns-in_err-read_list c =
@@ -14,7 +14,7 @@ returns-in_err-read_list c =
     let front = c.in_ok-front.front.now in
     let signed = c.in_ok-front.ensures in
     let long = (signed_places bytes front c.in_ok-front.sense signed).0 in
-    rw c.from-residual-in_err-read_list.ensures (λ short t v sense asks. c.in_err-read_list.ensures (omega (arith, ltb-true, ltb-false)) (t ∷ v ∷ []) (asks_front bytes front c.in_ok-front.sense signed t v sense asks))
+    rw c.from_residual-in_err-read_list.ensures (λ short t v sense asks. c.in_err-read_list.ensures (omega (arith, ltb-true, ltb-false)) (t ∷ v ∷ []) (asks_front bytes front c.in_ok-front.sense signed t v sense asks))
 
 pub returns-in-len2 : goal.returns-in-len2
 returns-in-len2 c =

@@ -10,7 +10,7 @@ returns-in_default c = λ front sense e.
     elim c.in_default.branch [ in_default-via-then-text-lt2 w ↦ omega (arith, ltb-true) | in_default-via-else-text-lt2+in_default· w ↦ omega (arith, ltb-true) ]
 
 pub returns-in_err-sense : goal.returns-in_err-sense
-returns-in_err-sense c = rw c.from-residual.ensures (λ front sense e. c.in_err-sense.ensures sense (sym (signed_places c.args.text.now front sense e).2))
+returns-in_err-sense c = rw c.from_residual.ensures (λ front sense e. c.in_err-sense.ensures sense (sym (signed_places c.args.text.now front sense e).2))
 
 pub returns : goal.returns
 returns c = signed_from_places c.args.text.now c.in_ok-sense.sense (omega (arith, ltb-false)) (omega arith) c.in_ok-sense.ensures

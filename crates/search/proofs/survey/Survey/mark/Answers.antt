@@ -9,7 +9,7 @@ returns-then-with_head c =
     let seen = vec_items c.args.self.now.seen in
     let at : SeenAt seen c.args.state c.in-Some.i = subst (λ (xs : List Seen). SeenAt xs c.args.state c.in-Some.i) c.deref.ensures.value c.in-Some.ensures in
     record {
-      items = marked_with seen c.args.state c.in-Some.i c.index-mut.result.now c.index-mut.ensures.value at
+      items = marked_with seen c.args.state c.in-Some.i c.index_mut.result.now c.index_mut.ensures.value at
           ∙ ap (marked seen c.args.state) (sym c.if-with_head.true);
       len = search rules;
     }

@@ -14,7 +14,7 @@ use Rattle.search.proofs.survey.Survey.take.Goals as goal
 
 pub returns-in_err-scan : goal.returns-in_err-scan
 returns-in_err-scan g c =
-    let p = err_from_is_err_and c.from-residual.result c.from-residual.ensures.1 in
+    let p = err_from_is_err_and c.from_residual.result c.from_residual.ensures.1 in
     let rows = g.L.Log.rows c.args.log.now in
     let within : c.rows.row < length rows = omega (arith, c.count-row-end.ensures, c.rows-test.true) in
     rw p.1
