@@ -4,6 +4,7 @@ pub mod Depths
 pub mod Dominated
 pub mod Finds
 pub mod Firm
+pub mod Founds
 pub mod Listings
 pub mod Marks
 pub mod Misses

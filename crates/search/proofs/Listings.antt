@@ -43,7 +43,7 @@ module _ (m : Meaning) (laws : Laws m) (ns : List ℕ) (lawful : Lawful 8 ns) (l
   listable_bound = subst (λ (n : ℕ). n ≤ 1000000) (sym (length_bodies m ns)) listable.1
 
 -- a target with a value is one of the targets
-known_within : (ts : List ℕ) (t v : ℕ) → v < get_or ts t 0 → t < length ts
+pub known_within : (ts : List ℕ) (t v : ℕ) → v < get_or ts t 0 → t < length ts
 known_within ts t v known = elim (cases_lt t (length ts)) [ inl lt ↦ lt | inr ge ↦ let none = get_or_past ts t 0 ge in absurd (omega (arith, none)) ]
 
 -- what stands once every check has passed and the survey is taken

@@ -1,4 +1,4 @@
-use Rattle.std.proofs.Common.{◌≡◌, ℕ, ◌-◌, List, length, take, replicate, None, vec_items, Option, unwrap_or, sym, refl, ap, ◌∙◌, subst, rules}
+use Rattle.std.proofs.Common.{◌≡◌, ℕ, ◌-◌, List, length, Ok, take, replicate, None, vec_items, Option, unwrap_or, sym, refl, ap, ◌∙◌, subst, rules}
 use Rattle.std.proofs.lemmas.List.{take_at}
 use Rattle.model.specs.Observations.{observations}
 use Rattle.model.specs.Shapes.{features}
@@ -11,6 +11,8 @@ use Rattle.search.specs.Walks.{places}
 use Rattle.search.specs.Weights.{heaviest}
 use Rattle.search.specs.declared.survey.Seen.{Seen}
 use Rattle.model.specs.Limits.{Listable}
+use Rattle.model.specs.Foretold.{Foretold}
+use Rattle.search.proofs.Founds.{forecasted_found}
 use Rattle.search.proofs.Listings.{Asked, listable_bare, best_places}
 use Rattle.search.proofs.forecasting.forecast.Goals as goal
 
@@ -60,7 +62,9 @@ returns g c =
     λ sense. best_places m g.met.K.Kind.lawful s rows h ns seen t v asked sense (states_against sense seen) refl c.in-Some.known state front in
     let pro : c.best_of-pro.result ≡ unwrap_or (weighed Can) 0 = c.best_of-pro.ensures.value ∙ ap (λ (o : Option ℕ). unwrap_or o 0) (best Can) in
     let contra : c.best_of-contra.result ≡ unwrap_or (weighed Cannot) 0 =
-    c.best_of-contra.ensures.value ∙ ap (λ (xs : List Seen). unwrap_or (heavy Cannot xs) 0) c.best_of-pro.ensures.same ∙ ap (λ (o : Option ℕ). unwrap_or o 0) (best Cannot) in (
+    c.best_of-contra.ensures.value ∙ ap (λ (xs : List Seen). unwrap_or (heavy Cannot xs) 0) c.best_of-pro.ensures.same ∙ ap (λ (o : Option ℕ). unwrap_or o 0) (best Cannot) in
+    let answer : ℕ × ℕ × ℕ = (c.best_of-pro.result, c.best_of-contra.result, c.share.result) in
+    let told : Foretold m s rows h state (Ok answer) = (
       asked.known,
       c.in-Some.ensures.0,
       subst (Listable m) asked.sizes asked.listable,
@@ -68,4 +72,5 @@ returns g c =
       ap (λ (p : ℕ). (c.best_of-pro.result, c.best_of-contra.result, p)) c.share.ensures
           ∙ ap (λ (p : ℕ). (p, c.best_of-contra.result, percentage p c.best_of-contra.result)) pro
           ∙ ap (λ (q : ℕ). (unwrap_or (weighed Can) 0, q, percentage (unwrap_or (weighed Can) 0) q)) contra,
-    )
+    ) in
+    record { answer = forecasted_found m g.met.K.Kind.lawful s rows h (g.met.L.Log.twelve c.args.log.now) state (Ok answer) told; told = told }

@@ -1,7 +1,9 @@
-use Rattle.std.proofs.Common.{◌≡◌, ℕ, ◌*◌, ◌<◌, ◌≤◌, List, length, Ok, vec_items, sym, refl, ap, ◌∙◌, subst, arith, rules}
+use Rattle.std.proofs.Common.{◌≡◌, ℕ, ◌*◌, ◌<◌, ◌≤◌, List, length, Ok, Err, vec_items, sym, refl, ap, ◌∙◌, subst, arith, rules}
 use Rattle.model.specs.Limits.{Listable}
 use Rattle.model.specs.Wholes.{ListedWhole, rules_of}
+use Rattle.model.specs.declared.refusal.Refusal.TheVariants.{Rules}
 use Rattle.model.proofs.Written.{whole_listed}
+use Rattle.search.proofs.Founds.{listed_found}
 use Rattle.search.proofs.Listings.{Asked, listable_bare, listable_bound, length_places, filled_places}
 use Rattle.search.proofs.listing.list.Goals as goal
 
@@ -38,17 +40,19 @@ returns-then-many-rules g c =
       twelve = g.met.L.Log.twelve c.args.log.now;
     } in
     let many : c.count-many.result ≡ length (rules_of m s rows c.args.head c.args.sense) = c.count-many.ensures ∙ length_places m g.met.K.Kind.lawful s rows c.args.head ns seen t v asked c.args.sense c.opposed-opposed.result.now told in
+    let refused : ListedWhole m s rows c.args.head c.args.sense c.args.rules.now c.args.rules.now (Err (Rules c.count-many.result)) = (
+      refl,
+      (
+        asked.known,
+        subst (Listable m) asked.sizes asked.listable,
+        c.in_ok-take.ensures.0,
+        many,
+        omega (arith, many, c.if-many-rules.true),
+      ),
+    ) in
     record {
-      answer = (
-        refl,
-        (
-          asked.known,
-          subst (Listable m) asked.sizes asked.listable,
-          c.in_ok-take.ensures.0,
-          many,
-          omega (arith, many, c.if-many-rules.true),
-        ),
-      );
+      answer = listed_found m g.met.K.Kind.lawful s rows c.args.head (g.met.L.Log.twelve c.args.log.now) c.args.sense c.args.rules.now c.args.rules.now (Err (Rules c.count-many.result)) refused;
+      listing = refused;
       whole = tt;
     }
 
@@ -97,6 +101,7 @@ returns g c =
       memory,
     ) in
     record {
-      answer = listed;
+      answer = listed_found m laws s rows h (g.met.L.Log.twelve c.args.log.now) sense c.args.rules.now _ (Ok c.count-many.result) listed;
+      listing = listed;
       whole = whole_listed m s rows h sense c.args.rules.now _ (Ok c.count-many.result) listed;
     }
