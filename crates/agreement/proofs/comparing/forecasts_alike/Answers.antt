@@ -9,5 +9,5 @@ returns g c =
       first_log = search rules;
       second_shape = search rules;
       second_log = search rules;
-      alike = decides_forecast g.K.Kind.meaning c.args.first.now.shape c.args.second.now.shape (g.L.Log.rows c.args.first.now.log) (g.M.Log.rows c.args.second.now.log) c.args.head c.args.state.now c.forecast-one.result c.forecast-other.result c.same_forecast.result c.forecast-one.ensures.answer c.forecast-other.ensures.answer c.same_forecast.ensures;
+      alike = decides_forecast g.K.Kind.meaning c.args.first.now.shape c.args.second.now.shape (g.L.Log.rows c.args.first.now.log) (g.M.Log.rows c.args.second.now.log) c.args.head c.args.state.now c.forecast-one.result c.forecast-other.result c.same_forecast.result c.forecast-one.ensures.told c.forecast-other.ensures.told c.same_forecast.ensures;
     }
