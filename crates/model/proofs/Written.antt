@@ -4,11 +4,11 @@ use Rattle.std.specs.List.{ContainsAt as Has, flat_map, AllByRecursion as All}
 use Rattle.std.proofs.ByRecursion.{all_kept_by, All-weaker}
 use Rattle.std.proofs.lemmas.List.{append_assoc, take_at, drop_at, length-append, length-replicate}
 use Rattle.model.specs.Bodies.{Body, bodies}
-use Rattle.model.specs.Exactly.{Exactly, Rivals}
+use Rattle.model.specs.Exactly.{Exactly}
 use Rattle.model.specs.Kinds.{Meaning, Laws}
 use Rattle.model.specs.Wholes.{rules_of, ListedWhole, Whole, Programmed}
 use Rattle.model.specs.Listings.{optimal, listing}
-use Rattle.model.specs.Memory.{place, filled, written}
+use Rattle.model.specs.Memory.{place, written}
 use Rattle.model.specs.Observations.{Observation, observations}
 use Rattle.model.specs.Rows.{Twelve}
 use Rattle.model.specs.Shapes.{features, targets}

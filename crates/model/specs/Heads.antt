@@ -1,5 +1,5 @@
 -- The heads of a shape. Assumes nothing.
-use Rattle.std.specs.Prelude.{ℕ, ◌<◌, slice_index}
+use Rattle.std.specs.Prelude.{◌<◌, slice_index}
 use Rattle.model.specs.Shapes.{targets}
 use Rattle.model.specs.declared.head.Head.{Head}
 use Rattle.model.specs.declared.shape.Shape.{Shape}

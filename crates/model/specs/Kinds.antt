@@ -1,5 +1,5 @@
 -- What a condition kind means, and the four laws that every kind keeps. Assumes nothing.
-use Rattle.std.specs.Prelude.{◌≡◌, ℕ, ◌<◌, ◌≤◌, Bool, true, false}
+use Rattle.std.specs.Prelude.{◌≡◌, ℕ, ◌<◌, ◌≤◌, Bool, true}
 
 -- Conditions on one value, for sizes from 2 up to a largest: how many there are, coded from 0; whether a condition
 -- holds of a value; whether one condition is weaker than another; and for each value its pin.

@@ -1,5 +1,5 @@
 -- The rows of a log. Assumes nothing.
-use Rattle.std.specs.Prelude.{◌≡◌, ℕ, [], length}
+use Rattle.std.specs.Prelude.{◌≡◌, [], length}
 use Rattle.model.specs.declared.row.Row.{Row}
 
 -- what the questions answer outside the list: class 255, day 0, and no cell, which is read as 255

@@ -2,9 +2,9 @@
 -- Assumes nothing.
 use Rattle.std.proofs.Common.{◌≡◌, ℕ, ◌<◌, Bool, true, false, not, ◌&&◌, ◌==◌, slice_index, slice_set, cond, List, [], ◌∷◌, map, length, None, Ok, Err, Result, filter, Option, sym, refl, ap, ◌∙◌, subst}
 use mathlib.Core.Path.{fun_ext}
-use Rattle.std.specs.List.{list_all, AllByRecursion as All}
+use Rattle.std.specs.List.{AllByRecursion as All}
 use Rattle.model.specs.Bodies.{bodies}
-use Rattle.model.specs.Forecasts.{RefusedForecast, Forecasted}
+use Rattle.model.specs.Forecasts.{Forecasted}
 use Rattle.model.specs.Foretold.{weight_of, Foretold}
 use Rattle.model.specs.Heads.{KnownHead}
 use Rattle.model.specs.Kinds.{Meaning, Laws}

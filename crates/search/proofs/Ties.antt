@@ -1,16 +1,15 @@
 -- What a search computes over a survey is what the definitions say of the observations. Assumes nothing.
-use Rattle.std.proofs.Common.{◌≡◌, ℕ, ◌<◌, ◌≤◌, Bool, true, false, not, ◌&&◌, List, [], ◌∷◌, map, length, None, Decides, filter, Option, sym, refl, ap, ◌∙◌, subst}
+use Rattle.std.proofs.Common.{◌≡◌, ℕ, ◌<◌, ◌≤◌, Bool, true, false, not, List, map, length, None, Decides, filter, sym, refl, ap, ◌∙◌, subst}
 use mathlib.Core.Path.{fun_ext}
 use Rattle.std.specs.List.{ContainsAt as Has, AllByRecursion as All}
 use Rattle.std.proofs.lemmas.List.{length-map}
 use Rattle.std.proofs.lemmas.List.Sums.{length-filter}
 use Rattle.std.proofs.lemmas.Bool.Decides.{same_from_decides, Decides-at, Decides-and, Decides-not, Decides-like}
 use Rattle.model.specs.Bodies.{bodies}
-use Rattle.model.specs.Exactly.{Once}
 use Rattle.model.specs.Kinds.{Meaning, Laws}
 use Rattle.model.specs.Listings.{consistent, listing}
 use Rattle.model.specs.Observations.{Observation, observations}
-use Rattle.model.specs.Optimal.{Taken, Matches, Against, Consistent}
+use Rattle.model.specs.Optimal.{Taken, Matches, Against}
 use Rattle.model.specs.Rows.{Twelve}
 use Rattle.model.specs.Rules.{matches}
 use Rattle.model.specs.Sets.{Supporters}
@@ -31,7 +30,7 @@ use Rattle.search.specs.Surveys.{against, surveyed}
 use Rattle.search.specs.Weights.{counts, heaviest, weight as seen_weight}
 use Rattle.search.specs.declared.survey.Seen.{Seen}
 use Rattle.search.proofs.Padding.{matches_front}
-use Rattle.search.proofs.Shows.{front, states, once_surveyed, front_same, shown_from_seen, seen_from_shown, against_seen, among_map, once_images}
+use Rattle.search.proofs.Shows.{front, once_surveyed, front_same, seen_from_shown, against_seen, among_map, once_images}
 
 not_not : (t : Bool) → not (not t) ≡ t
 not_not true = refl

@@ -1,4 +1,4 @@
-use Rattle.std.proofs.Common.{◌≡◌, ℕ, ◌*◌, ◌<◌, ◌≤◌, List, length, Ok, Err, vec_items, sym, refl, ap, ◌∙◌, subst, arith, rules}
+use Rattle.std.proofs.Common.{◌≡◌, ℕ, length, Ok, Err, vec_items, refl, ◌∙◌, subst, arith, rules}
 use Rattle.model.specs.Limits.{Listable}
 use Rattle.model.specs.Wholes.{ListedWhole, rules_of}
 use Rattle.model.specs.declared.refusal.Refusal.TheVariants.{Rules}

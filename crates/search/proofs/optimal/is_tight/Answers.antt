@@ -1,4 +1,4 @@
-use Rattle.std.proofs.Common.{◌≡◌, ℕ, Bool, true, false, length, sym, ap, ◌∙◌, arith, rules}
+use Rattle.std.proofs.Common.{◌≡◌, ℕ, length, sym, ap, ◌∙◌, arith, rules}
 use Rattle.model.specs.Rules.{each_below}
 use Rattle.model.specs.Below.{each_below_more, each_below_fails}
 use Rattle.search.specs.Misses.{firm_at}

@@ -1,4 +1,4 @@
-use Rattle.std.proofs.Common.{◌≡◌, ℕ, Bool, not, ◌&&◌, eqb, get_or, sym, ap, arith}
+use Rattle.std.proofs.Common.{Bool, not, ◌&&◌, eqb, get_or, sym, ap, arith}
 use Rattle.std.proofs.lemmas.Bool.{and_from, and_left, and_right, eq-eqb, ne_eqb}
 use Rattle.model.specs.Below.{each_below_more, each_below_fails}
 use Rattle.search.specs.Misses.{spares, frees}
