@@ -1,12 +1,12 @@
 -- The row of an observation that may be noted: it is lawful, and shows the state and the outcome. Assumes nothing.
-use Rattle.std.proofs.Common.{◌≡◌, ℕ, ◌-◌, ◌<◌, ◌≤◌, ltb, List, [], ◌∷◌, ◌++◌, length, get_or, take, drop, replicate, sym, refl, ap, ◌∙◌, subst, inl, inr, arith}
+use Rattle.std.proofs.Common.{◌≡◌, ℕ, ◌-◌, ◌<◌, ◌≤◌, ltb, List, ◌++◌, length, get_or, take, drop, replicate, ap, ◌∙◌, inl, inr, arith}
 use Rattle.std.proofs.lemmas.List.{append_assoc, take_at, drop_at, take-take, get_or-take, get_or_past, get_or_default, get_or_append_left, get_or-append_right}
 use Rattle.std.proofs.lemmas.Bool.{cases_lt, cond-true, cond-false, lt-ltb, le-ltb}
 use Rattle.model.specs.Memory.{place}
 use Rattle.model.specs.Notes.{Notable, noted_row}
-use Rattle.model.specs.Observations.{Observation, observation}
+use Rattle.model.specs.Observations.{observation}
 use Rattle.model.specs.Shapes.{features, targets, cell_size}
-use Rattle.model.specs.Strays.{Astray, LawfulRow}
+use Rattle.model.specs.Strays.{LawfulRow}
 use Rattle.model.specs.declared.shape.Shape.{Shape}
 use Rattle.model.proofs.Fits.{few_features, few_targets}
 use Rattle.model.proofs.Written.{place_long}

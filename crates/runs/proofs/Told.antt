@@ -1,5 +1,5 @@
 -- What forecasts tell of the states that a run noted. Assumes nothing.
-use Rattle.std.proofs.Common.{◌≡◌, ℕ, ◌-◌, Bool, cond, List, [], ◌∷◌, ◌++◌, map, length, take, drop, Some, None, Ok, Err, Result, sym, refl, ap, ◌∙◌, subst, inl, inr, arith, MatchResult}
+use Rattle.std.proofs.Common.{◌≡◌, ℕ, ◌-◌, Bool, List, [], ◌∷◌, ◌++◌, map, length, Some, None, Ok, Err, Result, refl, ap, ◌∙◌, subst, inl, inr, MatchResult}
 use Rattle.std.specs.List.{flat_map, AllByRecursion as All}
 use Rattle.std.proofs.ByRecursion.{All-append, All-get_or, all-has}
 use Rattle.std.proofs.lemmas.List.{map-append}
@@ -15,7 +15,6 @@ use Rattle.model.specs.Optimal.{Shown, ShownWith}
 use Rattle.model.specs.Rows.{no_row}
 use Rattle.model.specs.Shapes.{features}
 use Rattle.model.specs.Strays.{LawfulRow, FirstStray}
-use Rattle.model.specs.Telling.{Told}
 use Rattle.model.specs.Values.{Fitting}
 use Rattle.model.specs.Weights.{forecast}
 use Rattle.model.specs.declared.head.Head.{Head}

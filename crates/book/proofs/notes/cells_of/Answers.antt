@@ -1,4 +1,4 @@
-use Rattle.std.proofs.Common.{◌≡◌, ℕ, ◌-◌, ◌<◌, ◌≢◌, ◌++◌, length, get_or, take, sym, ap, ◌∙◌, arith, rules, below_more}
+use Rattle.std.proofs.Common.{◌≡◌, ◌-◌, ◌≢◌, ◌++◌, get_or, take, sym, ◌∙◌, arith, below_more}
 use Rattle.std.proofs.lemmas.List.{ext_get_or, length-append, length-take, length-set, get_or-set_same, get_or-set_other, get_or_append_left, get_or-append_right, get_or-take}
 use Rattle.book.proofs.notes.cells_of.Goals as goal
 use Rattle.book.proofs.notes.cells_of.Goals.{then-i-lt8, else-i-lt8}

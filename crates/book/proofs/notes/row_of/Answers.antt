@@ -1,7 +1,5 @@
-use Rattle.std.proofs.Common.{◌≡◌, List, length, take, drop, sym, ap, ◌∙◌, subst, arith, length-take, rules}
-use Rattle.model.specs.Shapes.{features, targets}
-use Rattle.model.specs.Values.{Fitting}
-use Rattle.model.specs.Notes.{Notable}
+use Rattle.std.proofs.Common.{length, arith, length-take}
+use Rattle.model.specs.Shapes.{features}
 use Rattle.book.proofs.notes.row_of.Goals as goal
 use Rattle.book.proofs.notes.row_of.Goals.{then-class-lt1-via-then-class-lt1, then-class-lt1-via-else-class-lt1+then-class-gt3, then-class-lt1-via-else-class-lt1+else-class-gt3+then-cells-features}
 

@@ -1,4 +1,3 @@
-use Rattle.model.specs.declared.row.Row.{Row}
 use Rattle.runs.proofs.Runs.{Running}
 use Rattle.runs.proofs.calls.run.Given as goal
 
