@@ -1,6 +1,6 @@
 -- Rows that give the same answers: the same rows, and lawful rows with the same observations. Assumes nothing.
 use Rattle.std.proofs.Common.{◌≡◌, ℕ, List, refl}
-use Rattle.std.specs.List.{AllByRecursion as All}
+use Rattle.std.specs.List.{AllByRecursion}
 use Rattle.model.specs.Kinds.{Meaning}
 use Rattle.model.specs.Wholes.{rules_of}
 use Rattle.model.specs.Observations.{observations}
@@ -20,8 +20,8 @@ use Rattle.agreement.proofs.Strays.{no_stray, same_stray}
 pub record SameAnswers (m : Meaning) (s : Shape) (rows rows' : List Row) : Type 0 where
   pub rules : (h : Head) (sense : Sense) → rules_of m s rows h sense ≡ rules_of m s rows' h sense
   pub weights : (h : Head) (state : List ℕ) → forecast m (features s) (observations s rows) h.target h.value state ≡ forecast m (features s) (observations s rows') h.target h.value state
-  pub onward : All (LawfulRow s) rows → All (LawfulRow s) rows'
-  pub back : All (LawfulRow s) rows' → All (LawfulRow s) rows
+  pub onward : AllByRecursion (LawfulRow s) rows → AllByRecursion (LawfulRow s) rows'
+  pub back : AllByRecursion (LawfulRow s) rows' → AllByRecursion (LawfulRow s) rows
   pub strays : (f g : Stray) → FirstStray s rows f → FirstStray s rows' g → f ≡ g
 
 module _ (m : Meaning) (s : Shape) (rows : List Row) where
@@ -35,7 +35,7 @@ module _ (m : Meaning) (s : Shape) (rows : List Row) where
         strays = same_stray s rows;
       }
 
-  pub answers_set : (rows' : List Row) → All (LawfulRow s) rows → All (LawfulRow s) rows' → SameSet (observations s rows) (observations s rows') → SameAnswers m s rows rows'
+  pub answers_set : (rows' : List Row) → AllByRecursion (LawfulRow s) rows → AllByRecursion (LawfulRow s) rows' → SameSet (observations s rows) (observations s rows') → SameAnswers m s rows rows'
   answers_set rows' lawful lawful' same =
       record {
         rules = λ h sense. listing_same m (features s) (observations s rows) (observations s rows') same h.target h.value sense;

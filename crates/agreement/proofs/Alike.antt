@@ -1,6 +1,6 @@
 -- Two books that were asked tell whether they answer alike; over the same set of observations they do. Assumes nothing.
 use Rattle.std.proofs.Common.{◌≡◌, ℕ, Bool, List, length, Decides, Result, sym, refl, ◌∙◌, subst}
-use Rattle.std.specs.List.{AllByRecursion as All}
+use Rattle.std.specs.List.{AllByRecursion}
 use Rattle.model.specs.Foretold.{Foretold}
 use Rattle.model.specs.Kinds.{Meaning}
 use Rattle.model.specs.Wholes.{ListedWhole}
@@ -30,9 +30,9 @@ module _ (m : Meaning) (s s' : Shape) (rows rows' : List Row) (h : Head) (sense 
     λ alike. d.1 (alike before before' after after' r r' refl refl l l'),
   )
 
-  pub listings_alike : (room room' : ℕ) → s ≡ s' → room ≡ room' → All (LawfulRow s) rows → All (LawfulRow s') rows' → SameSet (observations s rows) (observations s' rows') → AlikeListing m s s' rows rows' h sense room room'
+  pub listings_alike : (room room' : ℕ) → s ≡ s' → room ≡ room' → AllByRecursion (LawfulRow s) rows → AllByRecursion (LawfulRow s') rows' → SameSet (observations s rows) (observations s' rows') → AlikeListing m s s' rows rows' h sense room room'
   listings_alike room room' one rooms lawful =
-      subst (λ (t : Shape). All (LawfulRow t) rows' → SameSet (observations s rows) (observations t rows') → AlikeListing m s t rows rows' h sense room room') one
+      subst (λ (t : Shape). AllByRecursion (LawfulRow t) rows' → SameSet (observations s rows) (observations t rows') → AlikeListing m s t rows rows' h sense room room') one
       (λ lawful' set before before' after after' r r' long long'.
       listed_same m s h sense rows rows' (answers_set m s rows rows' lawful lawful' set) before before' (long ∙ rooms ∙ sym long') after after' r r')
 
@@ -46,7 +46,7 @@ module _ (m : Meaning) (s s' : Shape) (rows rows' : List Row) (h : Head) (state 
     λ alike. d.1 (alike r r' l l'),
   )
 
-  pub forecasts_alike : s ≡ s' → All (LawfulRow s) rows → All (LawfulRow s') rows' → SameSet (observations s rows) (observations s' rows') → AlikeForecast m s s' rows rows' h state
+  pub forecasts_alike : s ≡ s' → AllByRecursion (LawfulRow s) rows → AllByRecursion (LawfulRow s') rows' → SameSet (observations s rows) (observations s' rows') → AlikeForecast m s s' rows rows' h state
   forecasts_alike one lawful =
-      subst (λ (t : Shape). All (LawfulRow t) rows' → SameSet (observations s rows) (observations t rows') → AlikeForecast m s t rows rows' h state) one
+      subst (λ (t : Shape). AllByRecursion (LawfulRow t) rows' → SameSet (observations s rows) (observations t rows') → AlikeForecast m s t rows rows' h state) one
       (λ lawful' set. forecasted_same m s h state rows rows' (answers_set m s rows rows' lawful lawful' set))

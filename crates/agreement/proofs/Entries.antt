@@ -1,6 +1,6 @@
 -- Entries one after another: a step of the questions, and the law over them all. Assumes nothing.
 use Rattle.std.proofs.Common.{◌≡◌, ℕ, ◌+◌, ◌<◌, true, List, [], ◌∷◌, ◌++◌, map, length, get_or, take, set, sym, refl, ap, ◌∙◌, subst}
-use Rattle.std.specs.List.{AllByRecursion as All}
+use Rattle.std.specs.List.{AllByRecursion}
 use Rattle.std.proofs.ByRecursion.{All-push, All-weaker}
 use Rattle.std.proofs.lemmas.List.{map-set, get_or-map, set-get_or, take_more_set}
 use Rattle.model.specs.Kinds.{Meaning}
@@ -43,18 +43,18 @@ module _ (m : Meaning) where
       (subst (λ (u : Shape). Right m s u others others' place place' q) shape'
       (subst (λ (u : Shape). Right m u t' others others' place place' q) shape r)))))
 
-  pub right_more : (s t s' t' : Shape) (rows others rows' others' : List Row) (room place room' place' : ℕ) (asked : List Asked) (i : ℕ) (q : Asked) → i < length asked → t ≡ s → t' ≡ s' → others ≡ rows → others' ≡ rows' → place ≡ room → place' ≡ room' → All (Right m s s' rows rows' room room') (take i asked) → Right m t t' others others' place place' q → All (Right m s s' rows rows' room room') (take (i + 1) (set asked i q))
+  pub right_more : (s t s' t' : Shape) (rows others rows' others' : List Row) (room place room' place' : ℕ) (asked : List Asked) (i : ℕ) (q : Asked) → i < length asked → t ≡ s → t' ≡ s' → others ≡ rows → others' ≡ rows' → place ≡ room → place' ≡ room' → AllByRecursion (Right m s s' rows rows' room room') (take i asked) → Right m t t' others others' place place' q → AllByRecursion (Right m s s' rows rows' room room') (take (i + 1) (set asked i q))
   right_more s t s' t' rows others rows' others' room place room' place' asked i q inside shape shape' log log' long long' so_far last =
-      subst (All (Right m s s' rows rows' room room')) (sym (take_more_set asked i q inside))
+      subst (AllByRecursion (Right m s s' rows rows' room room')) (sym (take_more_set asked i q inside))
       (All-push (Right m s s' rows rows' room room') (take i asked) q so_far
       (right_at s t s' t' rows others rows' others' room place room' place' q shape shape' log log' long long' last))
 
 module _ (m : Meaning) (s s' : Shape) (rows rows' : List Row) (room room' : ℕ) where
   -- a right entry over the same set of observations says that the books answered alike
-  alike_from_right : s ≡ s' → room ≡ room' → All (LawfulRow s) rows → All (LawfulRow s') rows' → SameSet (observations s rows) (observations s' rows') → (q : Asked) → Right m s s' rows rows' room room' q → alike_of q ≡ true
+  alike_from_right : s ≡ s' → room ≡ room' → AllByRecursion (LawfulRow s) rows → AllByRecursion (LawfulRow s') rows' → SameSet (observations s rows) (observations s' rows') → (q : Asked) → Right m s s' rows rows' room room' q → alike_of q ≡ true
   alike_from_right one rooms lawful lawful' set (listing h sense alike) d = d.1 (listings_alike m s s' rows rows' h sense room room' one rooms lawful lawful' set)
   alike_from_right one rooms lawful lawful' set (forecast h state alike) d = d.1 (forecasts_alike m s s' rows rows' h state.now one lawful lawful' set)
 
-  pub law_from_right : (asked : List Asked) → All (Right m s s' rows rows' room room') asked → Law m s s' rows rows' room room' asked
+  pub law_from_right : (asked : List Asked) → AllByRecursion (Right m s s' rows rows' room room') asked → Law m s s' rows rows' room room' asked
   law_from_right asked right one rooms lawful lawful' set =
       All-weaker (Right m s s' rows rows' room room') (λ q. alike_of q ≡ true) (alike_from_right one rooms lawful lawful' set) asked right

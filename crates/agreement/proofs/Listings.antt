@@ -1,6 +1,6 @@
 -- Listings from rows that give the same answers come to the same. Assumes nothing.
 use Rattle.std.proofs.Common.{◌≡◌, ℕ, ◌*◌, ◌<◌, ◌⊎◌, List, length, take, Ok, Err, Result, sym, refl, ap, ◌∙◌, subst, inl, inr, arith}
-use Rattle.std.specs.List.{AllByRecursion as All}
+use Rattle.std.specs.List.{AllByRecursion}
 use Rattle.model.specs.Heads.{KnownHead}
 use Rattle.model.specs.Kinds.{Meaning}
 use Rattle.model.specs.Limits.{Listable}
@@ -30,7 +30,7 @@ module _ (m : Meaning) (s : Shape) (h : Head) (sense : Sense) where
       ((e ≡ refused_head) × (KnownHead s h → ⊥))
       ⊎ (((e ≡ Bodies) × KnownHead s h × (Listable m (features s) → ⊥))
       ⊎ (((f : Stray) × (e ≡ refused_stray f) × KnownHead s h × Listable m (features s) × FirstStray s rows f)
-      ⊎ ((e ≡ Rules (length (rules_of m s rows h sense))) × KnownHead s h × Listable m (features s) × All (LawfulRow s) rows × (length memory < 8 * length (rules_of m s rows h sense)))))
+      ⊎ ((e ≡ Rules (length (rules_of m s rows h sense))) × KnownHead s h × Listable m (features s) × AllByRecursion (LawfulRow s) rows × (length memory < 8 * length (rules_of m s rows h sense)))))
 
   why : (rows : List Row) (memory : List ℕ) (e : Refusal) → RefusedList m s rows h (rules_of m s rows h sense) memory e → Why rows memory e
   why rows memory refused_head r = inl (refl, r)

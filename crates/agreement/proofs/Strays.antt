@@ -1,6 +1,6 @@
 -- There is at most one first stray cell, and none among lawful rows. Assumes nothing.
 use Rattle.std.proofs.Common.{◌≡◌, ℕ, ◌<◌, List, get_or, ap, ◌∙◌, subst, inl, inr}
-use Rattle.std.specs.List.{AllByRecursion as All}
+use Rattle.std.specs.List.{AllByRecursion}
 use Rattle.std.proofs.ByRecursion.{All-get_or}
 use Rattle.std.proofs.lemmas.Bool.{cases_order}
 use Rattle.model.specs.Rows.{no_row}
@@ -21,7 +21,7 @@ same_fields f g rows cells =
     ap (λ (n : ℕ). at n f.cell) rows ∙ ap (at g.row) cells
 
 module _ (s : Shape) (rows : List Row) where
-  pub no_stray : (f : Stray) → FirstStray s rows f → All (LawfulRow s) rows → ⊥
+  pub no_stray : (f : Stray) → FirstStray s rows f → AllByRecursion (LawfulRow s) rows → ⊥
   no_stray f first lawful = All-get_or (LawfulRow s) rows f.row no_row first.row_within lawful f.cell first.cell_within first.here
 
   no_row_below : (f g : Stray) → FirstStray s rows f → FirstStray s rows g → f.row < g.row → ⊥

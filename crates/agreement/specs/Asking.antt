@@ -1,6 +1,6 @@
 -- Questions put to two books: when an entry is right, what is left in rule memory, and the law of order and repeats. Assumes nothing.
 use Rattle.std.specs.Prelude.{◌≡◌, ℕ, Bool, true, false, List, [], ◌∷◌, Decides}
-use Rattle.std.specs.List.{AllByRecursion as All}
+use Rattle.std.specs.List.{AllByRecursion}
 use Rattle.model.specs.Kinds.{Meaning}
 use Rattle.model.specs.Observations.{observations}
 use Rattle.model.specs.Sets.{SameSet}
@@ -41,6 +41,6 @@ module _ (m : Meaning) (s s' : Shape) (rows rows' : List Row) (room room' : ℕ)
   -- order and repeats do not matter: over lawful rows that show the same set of observations, every question is answered alike
   abbrev pub Law : List Asked → Type 0
   Law asked =
-      s ≡ s' → room ≡ room' → All (LawfulRow s) rows → All (LawfulRow s') rows'
+      s ≡ s' → room ≡ room' → AllByRecursion (LawfulRow s) rows → AllByRecursion (LawfulRow s') rows'
       → SameSet (observations s rows) (observations s' rows')
-      → All (λ q. alike_of q ≡ true) asked
+      → AllByRecursion (λ q. alike_of q ≡ true) asked

@@ -1,6 +1,6 @@
 // Putting the same questions to two books.
 ghost use Rattle.std.specs.Prelude.{◌≡◌, map, length, Decides};
-ghost use Rattle.std.specs.List.{AllByRecursion as All};
+ghost use Rattle.std.specs.List.{AllByRecursion};
 ghost use Rattle.agreement.specs.Alike.{AlikeListing, AlikeForecast, Lists};
 ghost use Rattle.agreement.specs.Asking.{question_of, Leaves, Leave, Right, Law};
 
@@ -94,7 +94,7 @@ pub fn compare<K: Kind + Drop, L: Log + Drop, M: Log + Drop>(
     ensures questions { map question_of questions.new ≡ map question_of questions.old }
     ensures left { Leave K.Kind.meaning first.old.shape (L.Log.rows first.old.log) questions.new left.old left.new }
     ensures right { Leave K.Kind.meaning second.old.shape (M.Log.rows second.old.log) questions.new right.old right.new }
-    ensures alike { All (Right K.Kind.meaning first.old.shape second.old.shape (L.Log.rows first.old.log) (M.Log.rows second.old.log) (length left.old) (length right.old)) questions.new }
+    ensures alike { AllByRecursion (Right K.Kind.meaning first.old.shape second.old.shape (L.Log.rows first.old.log) (M.Log.rows second.old.log) (length left.old) (length right.old)) questions.new }
     ensures law { Law K.Kind.meaning first.old.shape second.old.shape (L.Log.rows first.old.log) (M.Log.rows second.old.log) (length left.old) (length right.old) questions.new }
 {
     'questions: for i in 0..questions.len() {

@@ -1,7 +1,7 @@
 -- The rows that packed bytes show: how many, which, and that each has twelve cells. Assumes nothing.
 use Rattle.std.specs.Prelude.{◌≡◌, ℕ, ◌+◌, ◌<◌, ◌≤◌, List, length, get_or, drop, slice_index, slice_index_or}
 use Rattle.std.proofs.Common.{arith, ap, ◌∙◌}
-use Rattle.std.specs.List.{AllByRecursion as All}
+use Rattle.std.specs.List.{AllByRecursion}
 use Rattle.std.proofs.lemmas.List.{get_or-take, get_or-drop, get_or_default, get_or_past, length-drop, length-take-le}
 use Rattle.std.proofs.lemmas.List.FromFn.{length-map-range_with_len, get_or-map-range_with_len}
 use Rattle.std.proofs.ByRecursion.{All-from_get_or}
@@ -59,6 +59,6 @@ holds_place b i h =
 pub holds_shown : (b : List ℕ) (i : ℕ) → i < count_in b → Holds b (start i) (slice_index_or (shown b) i no_row)
 holds_shown b i h = rw (get_or_shown b i h) (holds_place b i (within_count b i h))
 
-pub twelve_shown : (b : List ℕ) → All Twelve (shown b)
+pub twelve_shown : (b : List ℕ) → AllByRecursion Twelve (shown b)
 twelve_shown b =
     All-from_get_or Twelve (shown b) no_row (λ i h. let in' : i < count_in b = omega (arith, length_shown b) in rw (get_or_shown b i in') (twelve_place b i (within_count b i in')))

@@ -1,6 +1,6 @@
 -- The sizes of a shape, and that the observations of lawful rows fit them. Assumes nothing.
 use Rattle.std.proofs.Common.{◌≡◌, ℕ, ◌+◌, ◌-◌, ◌<◌, ◌≤◌, ltb, List, [], ◌∷◌, length, get_or, drop, sym, ap, ◌∙◌, subst, inl, inr, arith}
-use Rattle.std.specs.List.{AllByRecursion as All}
+use Rattle.std.specs.List.{AllByRecursion}
 use Rattle.std.proofs.ByRecursion.{All-get_or, All-from_get_or}
 use Rattle.std.proofs.lemmas.List.{length-take, length-take-le, length-drop, get_or-take, get_or-drop, get_or_default}
 use Rattle.std.proofs.lemmas.Bool.{cases_lt, cond-true, cond-false, lt-ltb, le-ltb}
@@ -25,18 +25,18 @@ few_features s = omega (arith, length-take s.features.count s.features.values, s
 pub few_targets : (s : Shape) → length (targets s) ≤ 4
 few_targets s = omega (arith, length-take s.targets.count s.targets.values, s.few)
 
-sized : (z : Sizes) → All Size (sizes_of z)
+sized : (z : Sizes) → AllByRecursion Size (sizes_of z)
 sized z =
     All-from_get_or Size (sizes_of z) 0
     (λ i h. let lt : i < z.count = omega (arith, length-take z.count z.values) in subst Size (sym (get_or-take z.count z.values i 0 lt)) (z.filled.2 i lt))
 
-pub sized_features : (s : Shape) → All Size (features s)
+pub sized_features : (s : Shape) → AllByRecursion Size (features s)
 sized_features s = sized s.features
 
-pub sized_targets : (s : Shape) → All Size (targets s)
+pub sized_targets : (s : Shape) → AllByRecursion Size (targets s)
 sized_targets s = sized s.targets
 
-taken_sizes : (m : Meaning) (ns : List ℕ) → All Size ns → All (λ n. n ≤ m.largest) ns → Taken m ns
+taken_sizes : (m : Meaning) (ns : List ℕ) → AllByRecursion Size ns → AllByRecursion (λ n. n ≤ m.largest) ns → Taken m ns
 taken_sizes m [] sizes narrow = tt
 taken_sizes m (n ∷ ns) sizes narrow = ((sizes.0.0, narrow.0), taken_sizes m ns sizes.1 narrow.1)
 
@@ -74,10 +74,10 @@ module _ (s : Shape) where
         (omega (arith, size.0))),
   )
 
-  pub states_fit : (rows : List Row) → All Twelve rows → All (LawfulRow s) rows → StatesFit (features s) (observations s rows)
+  pub states_fit : (rows : List Row) → AllByRecursion Twelve rows → AllByRecursion (LawfulRow s) rows → StatesFit (features s) (observations s rows)
   states_fit [] twelve lawful = tt
   states_fit (r ∷ rows) twelve lawful = (state_fits r twelve.0 lawful.0, states_fit rows twelve.1 lawful.1)
 
-  pub outcomes_fit : (rows : List Row) → All Twelve rows → All (LawfulRow s) rows → OutcomesFit (targets s) (observations s rows)
+  pub outcomes_fit : (rows : List Row) → AllByRecursion Twelve rows → AllByRecursion (LawfulRow s) rows → OutcomesFit (targets s) (observations s rows)
   outcomes_fit [] twelve lawful = tt
   outcomes_fit (r ∷ rows) twelve lawful = (outcome_fits r twelve.0 lawful.0, outcomes_fit rows twelve.1 lawful.1)

@@ -1,6 +1,6 @@
 -- A test that looks at single weakenings only keeps the same rules as the listing. Assumes nothing.
 use Rattle.std.proofs.Common.{◌≡◌, ℕ, ◌<◌, Bool, true, not, ◌&&◌, eqb, List, [], ◌∷◌, length, get_or, set, Decides, filter, refl, ◌∙◌, inl, inr}
-use Rattle.std.specs.List.{AllByRecursion as All}
+use Rattle.std.specs.List.{AllByRecursion}
 use Rattle.std.proofs.ByRecursion.{All-weaker}
 use Rattle.std.proofs.lemmas.Bool.{cases_Bool}
 use Rattle.std.proofs.lemmas.Bool.Decides.{same_from_decides, Decides-at, Decides-like, Decides-and, Decides-not, Decides-eqb, Decides-below_and}
@@ -16,7 +16,7 @@ use Rattle.model.proofs.Bodies.{bodies_are}
 use Rattle.model.proofs.Ties.{consistent_decides, optimal_decides}
 use Rattle.model.proofs.Weakening.{optimal_when_tight}
 
-pub kept_same : {X : Type 0} (p q : X → Bool) (xs : List X) → All (λ x. p x ≡ q x) xs → filter p xs ≡ filter q xs
+pub kept_same : {X : Type 0} (p q : X → Bool) (xs : List X) → AllByRecursion (λ x. p x ≡ q x) xs → filter p xs ≡ filter q xs
 kept_same p q [] all = refl
 kept_same p q (x ∷ xs) all =
     elim (cases_Bool (q x)) [

@@ -1,6 +1,6 @@
 -- What stands in a list. Assumes nothing.
 use Rattle.std.proofs.Common.{◌≡◌, ℕ, zero, suc, ◌<◌, Bool, true, ◌⊎◌, List, [], ◌∷◌, map, length, filter, refl, subst, inl, inr, suc-le-suc, le_of_suc-le-suc, not-suc-le-zero, zero-add, arith}
-use Rattle.std.specs.List.{range_with_len, HoldsAt, ContainsAt as Has, flat_map, AllByRecursion as All}
+use Rattle.std.specs.List.{range_with_len, HoldsAt, ContainsAt as Has, flat_map, AllByRecursion}
 use Rattle.std.proofs.lemmas.List.FromFn.{length-range_with_len, get_or-range_with_len}
 use Rattle.std.proofs.ByRecursion.{all-has, All-weaker, all_has_itself, all_kept_by, kept_by_passes, has_append_left, has_append_right}
 use Rattle.std.proofs.lemmas.Bool.{cases_Bool, both_ways}
@@ -21,7 +21,7 @@ has_cases y x xs h = has_cases_at y x xs h.0 h.1 h.2
 pub has_none : {X : Type 0} (x : X) → Has [] x → ⊥
 has_none x h = not-suc-le-zero h.1
 
-pub all_from_has : {X : Type 0} (P : X → Type 0) (xs : List X) → ((x : X) → Has xs x → P x) → All P xs
+pub all_from_has : {X : Type 0} (P : X → Type 0) (xs : List X) → ((x : X) → Has xs x → P x) → AllByRecursion P xs
 all_from_has P xs f = All-weaker (Has xs) P f xs (all_has_itself xs)
 
 pub has_map : {X Y : Type 0} (f : X → Y) (xs : List X) (x : X) → Has xs x → Has (map f xs) (f x)

@@ -1,6 +1,6 @@
 -- Every consistent rule is dominated by an optimal one, and any rival set contains the listing. Assumes nothing.
 use Rattle.std.proofs.Common.{ℕ, ◌&&◌, List, [], ◌∷◌, subst, inl, inr}
-use Rattle.std.specs.List.{ContainsAt as Has, AllByRecursion as All}
+use Rattle.std.specs.List.{ContainsAt as Has, AllByRecursion}
 use Rattle.std.proofs.ByRecursion.{all-has}
 use Rattle.std.proofs.lemmas.Bool.{cases_Bool, both_ways}
 use Rattle.model.specs.Exactly.{Rivals}
@@ -23,10 +23,10 @@ module _ (m : Meaning) (laws : Laws m) (ns : List ℕ) (taken : Taken m ns) (os 
     body : Body m ns r
     clear : Consistent m ns os target value sense r
     above : Dominates m ns r b
-    top : All (λ c. Consistent m ns os target value sense c → Dominates m ns c r → Dominates m ns r c) cs
+    top : AllByRecursion (λ c. Consistent m ns os target value sense c → Dominates m ns c r → Dominates m ns r c) cs
 
   -- go up to each rule of the list that is consistent and dominates the one reached: a rule passed by is not above the last
-  highest : (cs : List (List ℕ)) → All (Body m ns) cs → (b : List ℕ) → Body m ns b → Consistent m ns os target value sense b → (r : List ℕ) × Highest b cs r
+  highest : (cs : List (List ℕ)) → AllByRecursion (Body m ns) cs → (b : List ℕ) → Body m ns b → Consistent m ns os target value sense b → (r : List ℕ) × Highest b cs r
   highest [] all b body clear = (b, record { body = body; clear = clear; above = dominates_itself m laws ns taken b body; top = tt })
   highest (c ∷ cs) all b body clear =
       let tie = above_decides m ns os target value sense b c in
@@ -68,7 +68,7 @@ module _ (m : Meaning) (laws : Laws m) (ns : List ℕ) (taken : Taken m ns) (os 
 
 module _ (m : Meaning) (ns : List ℕ) (os : List Observation) (target value : ℕ) (sense : Sense) where
   -- an optimal rule is the one that its rival set has above it
-  pub rivals_have : (rules : List (List ℕ)) → Rivals m ns os target value sense rules → All (Has rules) (listing m ns os target value sense)
+  pub rivals_have : (rules : List (List ℕ)) → Rivals m ns os target value sense rules → AllByRecursion (Has rules) (listing m ns os target value sense)
   rivals_have rules rivals =
       all_from_has (Has rules) (listing m ns os target value sense)
       (λ b has. let best = listing_has m ns os target value sense b has in

@@ -1,6 +1,6 @@
 -- The can listings of all heads are the optimal program. Assumes nothing.
 use Rattle.std.proofs.Common.{ℕ, ◌<◌, ◌≤◌, List, length, get_or, sym, refl, subst, inl, inr}
-use Rattle.std.specs.List.{ContainsAt as Has, AllByRecursion as All}
+use Rattle.std.specs.List.{ContainsAt as Has, AllByRecursion}
 use Rattle.std.proofs.ByRecursion.{all-has, All-get_or}
 use Rattle.std.proofs.lemmas.Bool.{cases_Bool, both_ways}
 use Rattle.model.specs.Bodies.{Body}
@@ -18,7 +18,7 @@ use Rattle.model.proofs.Optima.{optimum_above}
 use Rattle.model.proofs.Pins.{matching_rule}
 use Rattle.model.proofs.Ties.{shown_decides, has_listing, listing_has}
 
-module _ (m : Meaning) (laws : Laws m) (ns ts : List ℕ) (taken : Taken m ns) (some : All (λ n. 1 ≤ n) ts) (os : List Observation) (states : StatesFit ns os) (outcomes : OutcomesFit ts os) where
+module _ (m : Meaning) (laws : Laws m) (ns ts : List ℕ) (taken : Taken m ns) (some : AllByRecursion (λ n. 1 ≤ n) ts) (os : List Observation) (states : StatesFit ns os) (outcomes : OutcomesFit ts os) where
   realizes : (o : Observation) → Has os o → (target : ℕ) → Among (listing m ns os target (get_or o.outcome target 0) Can) (λ b. Matches m ns b o.state)
   realizes o h target =
       matching_rule m laws ns taken o.state (all-has (λ o. Fitting ns o.state) os o states h) os states target (get_or o.outcome target 0) Can

@@ -1,7 +1,7 @@
 -- The forecast at a shown state. Assumes nothing.
 use Rattle.std.proofs.Common.{◌≡◌, ℕ, ◌*◌, ◌/◌, ◌≤◌, Bool, true, false, cond, eqb, List, [], ◌∷◌, map, None, filter, Option, unwrap_or, refl, ap, ◌∙◌, subst, inl, inr, add-zero, zero-add, mul-div_cancel, arith}
 use native.Mathlib.Nat.{zero-div}
-use Rattle.std.specs.List.{AllByRecursion as All}
+use Rattle.std.specs.List.{AllByRecursion}
 use Rattle.std.proofs.ByRecursion.{all-has}
 use Rattle.std.proofs.lemmas.Bool.{cases_Bool, ne_eqb}
 use Rattle.model.specs.Kinds.{Meaning, Laws}
@@ -21,7 +21,7 @@ use Rattle.model.proofs.Pins.{matching_rule}
 use Rattle.model.proofs.Ties.{matches_decides, shown_from_against, listing_has}
 use Rattle.model.proofs.Weighing.{weight_some}
 
-kept_none : {X : Type 0} (p : X → Bool) (xs : List X) → All (λ x. p x ≡ true → ⊥) xs → filter p xs ≡ []
+kept_none : {X : Type 0} (p : X → Bool) (xs : List X) → AllByRecursion (λ x. p x ≡ true → ⊥) xs → filter p xs ≡ []
 kept_none p [] all = refl
 kept_none p (x ∷ xs) all = elim (cases_Bool (p x)) [ inl yes' ↦ absurd (all.0 yes') | inr not' ↦ rw not' (kept_none p xs all.1) ]
 

@@ -1,6 +1,6 @@
 -- Reading back from rule memory what a listing wrote there. Assumes nothing.
 use Rattle.std.proofs.Common.{◌≡◌, ℕ, ◌-◌, ◌*◌, ◌≤◌, List, [], ◌∷◌, ◌++◌, length, take, drop, replicate, Ok, Err, Result, sym, refl, ap, ◌∙◌, subst, arith}
-use Rattle.std.specs.List.{ContainsAt as Has, flat_map, AllByRecursion as All}
+use Rattle.std.specs.List.{ContainsAt as Has, flat_map, AllByRecursion}
 use Rattle.std.proofs.ByRecursion.{all_kept_by, All-weaker}
 use Rattle.std.proofs.lemmas.List.{append_assoc, take_at, drop_at, length-append, length-replicate}
 use Rattle.model.specs.Bodies.{Body, bodies}
@@ -28,7 +28,7 @@ use Rattle.model.proofs.Ties.{has_listing, listing_has}
 pub place_long : (b : List ℕ) → length b ≤ 8 → length (place b) ≡ 8
 place_long b few = omega (arith, length-append b (replicate (8 - length b) 0), length-replicate {A = ℕ} (8 - length b) 0)
 
-pub written_joined : (k : ℕ) (rules : List (List ℕ)) (rest : List ℕ) → k ≤ 8 → All (λ b. length b ≡ k) rules → written k (length rules) (flat_map place rules ++ rest) ≡ rules
+pub written_joined : (k : ℕ) (rules : List (List ℕ)) (rest : List ℕ) → k ≤ 8 → AllByRecursion (λ b. length b ≡ k) rules → written k (length rules) (flat_map place rules ++ rest) ≡ rules
 written_joined k [] rest few long = refl
 written_joined k (b ∷ rules) rest few long =
     let zeros : List ℕ = replicate (8 - length b) 0 in
@@ -42,7 +42,7 @@ written_joined k (b ∷ rules) rest few long =
     ∙ ap (λ (bs : List (List ℕ)). b ∷ bs) (ap (written k (length rules)) back ∙ written_joined k rules rest few long.1)
 
 module _ (m : Meaning) (ns : List ℕ) (os : List Observation) (target value : ℕ) (sense : Sense) where
-  pub length_rules : All (λ b. length b ≡ length ns) (listing m ns os target value sense)
+  pub length_rules : AllByRecursion (λ b. length b ≡ length ns) (listing m ns os target value sense)
   length_rules = all_kept_by (optimal m ns os target value sense) (λ b. length b ≡ length ns) (bodies m ns) (All-weaker (Body m ns) (λ b. length b ≡ length ns) (length_body m ns) (bodies m ns) (bodies_are m ns))
 
   pub exactly : Exactly m ns os target value sense (listing m ns os target value sense)
@@ -71,11 +71,11 @@ module _ (m : Meaning) (s : Shape) (rows : List Row) (h : Head) (sense : Sense) 
       let os : List Observation = observations s rows in
       let same = read_back n listed in (
         subst (Exactly m (features s) os h.target h.value sense) (sym same) (exactly m (features s) os h.target h.value sense),
-        λ rivals are. subst (All (Has rivals)) (sym same) (rivals_have m (features s) os h.target h.value sense rivals are),
+        λ rivals are. subst (AllByRecursion (Has rivals)) (sym same) (rivals_have m (features s) os h.target h.value sense rivals are),
       )
 
   -- what the can listings of all heads write is the optimal program
-  pub programmed_listed : Laws m → All Twelve rows → (r : Result ℕ Refusal) → ListedWhole m s rows h sense before after r → Programmed m s rows h sense after r
+  pub programmed_listed : Laws m → AllByRecursion Twelve rows → (r : Result ℕ Refusal) → ListedWhole m s rows h sense before after r → Programmed m s rows h sense after r
   programmed_listed laws twelve (Err e) listed = tt
   programmed_listed laws twelve (Ok n) listed = (
     optimal_program m laws (features s) (targets s) (taken_features m s listed.1) (All-weaker Size (λ k. 1 ≤ k) (λ k size. omega (arith, size.0)) (targets s) (sized_targets s))

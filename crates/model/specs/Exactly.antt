@@ -1,7 +1,7 @@
 -- A listing holds exactly the optimal rules, each once and rising, and every rival set contains it, as statements.
 -- Assumes nothing.
 use Rattle.std.specs.Prelude.{◌≡◌, ℕ, ◌<◌, ◌⊎◌, List, [], ◌∷◌}
-use Rattle.std.specs.List.{ContainsAt as Has, AllByRecursion as All}
+use Rattle.std.specs.List.{ContainsAt as Has, AllByRecursion}
 use Rattle.model.specs.Bodies.{Body}
 use Rattle.model.specs.Kinds.{Meaning}
 use Rattle.model.specs.Listings.{listing}
@@ -23,7 +23,7 @@ Before (x ∷ b) (y ∷ c) = (x < y) ⊎ ((x ≡ y) × Before b c)
 -- each rule stands before all that follow it
 abbrev pub Rising : List (List ℕ) → Type 0
 Rising [] = Unit {0}
-Rising (b ∷ bs) = All (Before b) bs × Rising bs
+Rising (b ∷ bs) = AllByRecursion (Before b) bs × Rising bs
 
 module _ (m : Meaning) (ns : List ℕ) (os : List Observation) (target value : ℕ) (sense : Sense) where
   -- a list has each optimal rule once and nothing else, in rising order
@@ -35,7 +35,7 @@ module _ (m : Meaning) (ns : List ℕ) (os : List Observation) (target value : �
 
   -- a set of consistent rules in which every consistent rule finds a dominating one
   pub record Rivals (rules : List (List ℕ)) : Type 0 where
-    pub consistent : All (λ b. Body m ns b × Consistent m ns os target value sense b) rules
+    pub consistent : AllByRecursion (λ b. Body m ns b × Consistent m ns os target value sense b) rules
     pub dominating : (b : List ℕ) → Body m ns b → Consistent m ns os target value sense b → Among rules (λ c. Dominates m ns c b)
 
 module _ (m : Meaning) where
@@ -46,4 +46,4 @@ module _ (m : Meaning) where
   -- a set of rivals contains every rule of the listing
   abbrev pub RivalsContain : Type 0
   RivalsContain = (ns : List ℕ) (os : List Observation) (target value : ℕ) (sense : Sense) (rules : List (List ℕ)) → Rivals m ns os target value sense rules
-      → All (Has rules) (listing m ns os target value sense)
+      → AllByRecursion (Has rules) (listing m ns os target value sense)

@@ -1,7 +1,7 @@
 -- What a forecast answers. Assumes nothing.
 use Rattle.std.specs.Prelude.{◌≡◌, ℕ, ◌+◌, ◌*◌, ◌/◌, cond, List, Option, Result, MatchResult, ◌==◌}
 use Rattle.std.specs.Option.{unwrap_or}
-use Rattle.std.specs.List.{AllByRecursion as All}
+use Rattle.std.specs.List.{AllByRecursion}
 use Rattle.model.specs.Heads.{KnownHead}
 use Rattle.model.specs.Kinds.{Meaning}
 use Rattle.model.specs.Limits.{Listable}
@@ -38,6 +38,6 @@ module _ (m : Meaning) (s : Shape) (rows : List Row) (h : Head) (state : List �
   abbrev pub Forecasted : Option ℕ → Option ℕ → Result (ℕ × ℕ × ℕ) Refusal → Type 0
   Forecasted pro contra r =
       MatchResult r
-      (λ answer. KnownHead s h × Fitting (features s) state × Listable m (features s) × All (LawfulRow s) rows
+      (λ answer. KnownHead s h × Fitting (features s) state × Listable m (features s) × AllByRecursion (LawfulRow s) rows
       × (answer ≡ (unwrap_or pro 0, unwrap_or contra 0, percentage (unwrap_or pro 0) (unwrap_or contra 0))))
       RefusedForecast

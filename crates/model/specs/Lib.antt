@@ -5,6 +5,7 @@ pub mod Bodies
 pub mod Decided
 pub mod Exact
 pub mod Exactly
+pub mod Exacts
 pub mod Examples
 pub mod Forecasts
 pub mod Foretold

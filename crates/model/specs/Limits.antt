@@ -1,6 +1,6 @@
 -- What can be listed. Assumes nothing.
 use Rattle.std.specs.Prelude.{ℕ, ◌*◌, ◌≤◌, List, [], ◌∷◌}
-use Rattle.std.specs.List.{AllByRecursion as All}
+use Rattle.std.specs.List.{AllByRecursion}
 use Rattle.model.specs.Kinds.{Meaning}
 
 module _ (m : Meaning) where
@@ -11,4 +11,4 @@ module _ (m : Meaning) where
 
   -- no feature size is above the kind's largest, and there are at most 1,000,000 bodies
   abbrev pub Listable : List ℕ → Type 0
-  Listable ns = All (λ n. n ≤ m.largest) ns × (body_count ns ≤ 1000000)
+  Listable ns = AllByRecursion (λ n. n ≤ m.largest) ns × (body_count ns ≤ 1000000)

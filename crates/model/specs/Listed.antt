@@ -1,6 +1,6 @@
 -- What a listing answers, and what it leaves in rule memory. Assumes nothing.
 use Rattle.std.specs.Prelude.{◌≡◌, ℕ, ◌*◌, ◌<◌, ◌≤◌, List, length, Result, MatchResult}
-use Rattle.std.specs.List.{AllByRecursion as All}
+use Rattle.std.specs.List.{AllByRecursion}
 use Rattle.model.specs.Heads.{KnownHead}
 use Rattle.model.specs.Kinds.{Meaning}
 use Rattle.model.specs.Limits.{Listable}
@@ -19,7 +19,7 @@ module _ (m : Meaning) (s : Shape) (rows : List Row) (h : Head) where
   RefusedList rules memory refused_head = KnownHead s h → ⊥
   RefusedList rules memory Bodies = KnownHead s h × (Listable m (features s) → ⊥)
   RefusedList rules memory (Stray f) = KnownHead s h × Listable m (features s) × FirstStray s rows f
-  RefusedList rules memory (Rules n) = KnownHead s h × Listable m (features s) × All (LawfulRow s) rows × (n ≡ length rules) × (length memory < 8 * length rules)
+  RefusedList rules memory (Rules n) = KnownHead s h × Listable m (features s) × AllByRecursion (LawfulRow s) rows × (n ≡ length rules) × (length memory < 8 * length rules)
   RefusedList rules memory refused_shape = ⊥
   RefusedList rules memory Image = ⊥
   RefusedList rules memory Observation = ⊥
@@ -33,5 +33,5 @@ module _ (m : Meaning) (s : Shape) (rows : List Row) (h : Head) where
   abbrev pub Listed : List (List ℕ) → List ℕ → List ℕ → Result ℕ Refusal → Type 0
   Listed rules before after r =
       MatchResult r
-      (λ n. KnownHead s h × Listable m (features s) × All (LawfulRow s) rows × (n ≡ length rules) × (8 * length rules ≤ length before) × (after ≡ filled rules before))
+      (λ n. KnownHead s h × Listable m (features s) × AllByRecursion (LawfulRow s) rows × (n ≡ length rules) × (8 * length rules ≤ length before) × (after ≡ filled rules before))
       (λ e. (after ≡ before) × RefusedList rules before e)

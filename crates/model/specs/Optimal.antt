@@ -1,7 +1,7 @@
 -- What an optimal rule is: matching, domination, the states shown and against, consistent and optimal, each as a relation
 -- over all states and all rules. Assumes nothing.
 use Rattle.std.specs.Prelude.{◌≡◌, ℕ, ◌<◌, ◌≤◌, true, List, length, slice_index}
-use Rattle.std.specs.List.{ContainsAt as Has, AllByRecursion as All}
+use Rattle.std.specs.List.{ContainsAt as Has, AllByRecursion}
 use Rattle.model.specs.Kinds.{Meaning}
 use Rattle.model.specs.Bodies.{Body}
 use Rattle.model.specs.Observations.{Observation}
@@ -15,7 +15,7 @@ Among {X} xs P = (x : X) × Has xs x × P x
 module _ (m : Meaning) (ns : List ℕ) where
   -- the kind takes each of the feature sizes
   abbrev pub Taken : Type 0
-  Taken = All (λ n. (2 ≤ n) × (n ≤ m.largest)) ns
+  Taken = AllByRecursion (λ n. (2 ≤ n) × (n ≤ m.largest)) ns
 
   -- a rule matches a state: each of its conditions holds of its value
   abbrev pub Matches : List ℕ → List ℕ → Type 0

@@ -1,6 +1,6 @@
 -- The optimal program of some observations, and that the can listings of all heads are it, as a statement. Assumes nothing.
 use Rattle.std.specs.Prelude.{ℕ, ◌<◌, ◌≤◌, List, length, slice_index}
-use Rattle.std.specs.List.{ContainsAt as Has, AllByRecursion as All}
+use Rattle.std.specs.List.{ContainsAt as Has, AllByRecursion}
 use Rattle.model.specs.Bodies.{Body}
 use Rattle.model.specs.Kinds.{Meaning}
 use Rattle.model.specs.Listings.{listing}
@@ -18,7 +18,7 @@ module _ (m : Meaning) (ns ts : List ℕ) (os : List Observation) where
   -- a program is suitable: consistent, realizing every observation, complete, and dominating every consistent rule
   pub record Suitable (program : Program) : Type 0 where
     -- each rule is consistent
-    pub consistent : (target value : ℕ) → value < slice_index ts target → All (λ b. Body m ns b × Consistent m ns os target value Can b) (program target value)
+    pub consistent : (target value : ℕ) → value < slice_index ts target → AllByRecursion (λ b. Body m ns b × Consistent m ns os target value Can b) (program target value)
     -- for each target of an observation a rule for its value there matches its state
     pub realizing : (o : Observation) → Has os o → (target : ℕ) → target < length ts
         → Among (program target (slice_index o.outcome target)) (λ b. Matches m ns b o.state)
@@ -36,9 +36,9 @@ module _ (m : Meaning) (ns ts : List ℕ) (os : List Observation) where
 
 -- the outcome of each observation has a value below its size for each target
 abbrev pub OutcomesFit : List ℕ → List Observation → Type 0
-OutcomesFit ts os = All (λ o. Fitting ts o.outcome) os
+OutcomesFit ts os = AllByRecursion (λ o. Fitting ts o.outcome) os
 
 -- over observations that fit the sizes, the can listings of all heads together are the optimal program
 abbrev pub ListingsAreProgram : Meaning → Type 0
-ListingsAreProgram m = (ns ts : List ℕ) → Taken m ns → All (λ n. 1 ≤ n) ts → (os : List Observation) → StatesFit ns os → OutcomesFit ts os
+ListingsAreProgram m = (ns ts : List ℕ) → Taken m ns → AllByRecursion (λ n. 1 ≤ n) ts → (os : List Observation) → StatesFit ns os → OutcomesFit ts os
     → OptimalProgram m ns ts os (λ target value. listing m ns os target value Can)

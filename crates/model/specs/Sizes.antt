@@ -1,6 +1,6 @@
 -- The sizes that a shape may have. Assumes nothing.
 use Rattle.std.specs.Prelude.{◌≡◌, ℕ, ◌<◌, ◌≤◌, List, length, slice_index}
-use Rattle.std.specs.List.{AllByRecursion as All}
+use Rattle.std.specs.List.{AllByRecursion}
 
 -- a size of a feature or a target
 abbrev pub Size : ℕ → Type 0
@@ -8,7 +8,7 @@ Size n = (2 ≤ n) × (n ≤ 8)
 
 -- sizes for at least one and at most `most` features or targets
 abbrev pub Lawful : ℕ → List ℕ → Type 0
-Lawful most sizes = (1 ≤ length sizes) × (length sizes ≤ most) × All Size sizes
+Lawful most sizes = (1 ≤ length sizes) × (length sizes ≤ most) × AllByRecursion Size sizes
 
 -- a table of eight whose first n places hold sizes, and the others 0
 abbrev pub Filled : List ℕ → ℕ → Type 0

@@ -1,6 +1,6 @@
 -- What a forecast tells of a state that was shown, as a statement. Assumes nothing.
 use Rattle.std.specs.Prelude.{◌≡◌, ℕ, ◌≤◌, List}
-use Rattle.std.specs.List.{AllByRecursion as All}
+use Rattle.std.specs.List.{AllByRecursion}
 use Rattle.model.specs.Kinds.{Meaning}
 use Rattle.model.specs.Observations.{Observation}
 use Rattle.model.specs.Optimal.{Taken, Shown, ShownWith}
@@ -9,7 +9,7 @@ use Rattle.model.specs.Weights.{forecast}
 
 -- the state of each observation has a value below its size for each feature
 abbrev pub StatesFit : List ℕ → List Observation → Type 0
-StatesFit ns os = All (λ o. Fitting ns o.state) os
+StatesFit ns os = AllByRecursion (λ o. Fitting ns o.state) os
 
 module _ (m : Meaning) (ns : List ℕ) (os : List Observation) (target value : ℕ) (s : List ℕ) where
   -- where the state was shown with the head, all weight is for it: 100 percent; where never, all is against it: 0 percent

@@ -1,6 +1,6 @@
 -- What a listing from the observations of a log's rows answers, and that it is whole. Assumes nothing.
 use Rattle.std.specs.Prelude.{◌≡◌, ℕ, List, length, Result, MatchResult}
-use Rattle.std.specs.List.{ContainsAt as Has, AllByRecursion as All}
+use Rattle.std.specs.List.{ContainsAt as Has, AllByRecursion}
 use Rattle.model.specs.Exactly.{Exactly, Rivals}
 use Rattle.model.specs.Kinds.{Meaning}
 use Rattle.model.specs.Listed.{Listed}
@@ -31,7 +31,7 @@ module _ (m : Meaning) (s : Shape) (rows : List Row) (h : Head) (sense : Sense) 
   Whole after r =
       MatchResult r
       (λ n. Exactly m (features s) (observations s rows) h.target h.value sense (written (length (features s)) n after)
-      × ((rivals : List (List ℕ)) → Rivals m (features s) (observations s rows) h.target h.value sense rivals → All (Has rivals) (written (length (features s)) n after)))
+      × ((rivals : List (List ℕ)) → Rivals m (features s) (observations s rows) h.target h.value sense rivals → AllByRecursion (Has rivals) (written (length (features s)) n after)))
       (λ e. Unit {0})
 
 -- the optimal rules in the sense can of each head: a program

@@ -1,7 +1,7 @@
 // The exact kind: any value, or equality with one value.
 ghost use Rattle.std.specs.Prelude.{◌≡◌};
 ghost use Rattle.model.specs.Exact.{exact, in_range};
-ghost use Rattle.std.proofs.Common.{rules};
+ghost use Rattle.model.specs.Exacts.{exact_laws};
 
 use super::kind::Kind;
 
@@ -20,7 +20,7 @@ impl Kind for Exact {
 
     ghost meaning = { exact };
 
-    ghost lawful = { Prim.search rules };
+    ghost lawful = { exact_laws };
 
     fn widest() -> u8 {
         Self::LARGEST

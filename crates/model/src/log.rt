@@ -1,7 +1,7 @@
 // What a log is: a list of at most 65,535 rows, and questions about it.
 // An `impl` says which rows it shows, and proves the two laws of the list and the answer of each question.
 ghost use Rattle.std.specs.Prelude.{◌≡◌, ℕ, ◌≤◌, List, length, get_or, slice_index_or};
-ghost use Rattle.std.specs.List.{AllByRecursion as All};
+ghost use Rattle.std.specs.List.{AllByRecursion};
 ghost use Rattle.model.specs.Rows.{no_row, Twelve};
 ghost use Rattle.model.specs.declared.row.Row.{Row};
 
@@ -27,5 +27,5 @@ pub trait Log {
 
     ghost few: { (l : Self) → length (rows l) ≤ 65535 };
 
-    ghost twelve: { (l : Self) → All Twelve (rows l) };
+    ghost twelve: { (l : Self) → AllByRecursion Twelve (rows l) };
 }

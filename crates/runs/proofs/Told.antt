@@ -1,6 +1,6 @@
 -- What forecasts tell of the states that a run noted. Assumes nothing.
 use Rattle.std.proofs.Common.{◌≡◌, ℕ, ◌-◌, Bool, List, [], ◌∷◌, ◌++◌, map, length, Some, None, Ok, Err, Result, refl, ap, ◌∙◌, subst, inl, inr, MatchResult}
-use Rattle.std.specs.List.{flat_map, AllByRecursion as All}
+use Rattle.std.specs.List.{flat_map, AllByRecursion}
 use Rattle.std.proofs.ByRecursion.{All-append, All-get_or, all-has}
 use Rattle.std.proofs.lemmas.List.{map-append}
 use Rattle.std.proofs.lemmas.Bool.{cases_Bool, both_ways}
@@ -35,8 +35,8 @@ use Rattle.runs.proofs.Noted.{observed, lawful_noted}
 -- what some rows show is these observations, which fit the sizes, and the rows are lawful
 pub record Shows (s : Shape) (rows : List Row) (os : List Observation) : Type 0 where
   pub same : observations s rows ≡ os
-  pub lawful : All (LawfulRow s) rows
-  pub fit : All (λ o. Fitting (features s) o.state) os
+  pub lawful : AllByRecursion (LawfulRow s) rows
+  pub fit : AllByRecursion (λ o. Fitting (features s) o.state) os
 
 shows_none : (s : Shape) → Shows s [] []
 shows_none s = record { same = refl; lawful = tt; fit = tt }
@@ -70,7 +70,7 @@ module _ (m : Meaning) (s : Shape) (admits : Row → Bool) where
       (entry_shows free rows before ran.0 e ran.1)
       (run_shows (free - length (taken_in s e)) (rows ++ taken_in s e) ran.0 es after ran.2)
 
-stray_never : (s : Shape) (rows : List Row) (f : Fault) → FirstStray s rows f → All (LawfulRow s) rows → ⊥
+stray_never : (s : Shape) (rows : List Row) (f : Fault) → FirstStray s rows f → AllByRecursion (LawfulRow s) rows → ⊥
 stray_never s rows f first lawful = All-get_or (LawfulRow s) rows f.row no_row first.row_within lawful f.cell first.cell_within first.here
 
 module _ (m : Meaning) (laws : Laws m) (s : Shape) (rows : List Row) (os : List Observation) (shows : Shows s rows os) (listable : Listable m (features s)) (st : List ℕ) (shown : Shown os st) (h : Head) (known : KnownHead s h) where

@@ -1,6 +1,6 @@
 -- How many bodies there are, and that the limits leave at least one. Assumes nothing.
 use Rattle.std.proofs.Common.{◌≡◌, ℕ, zero, suc, ◌+◌, ◌*◌, ◌<◌, ◌≤◌, List, [], ◌∷◌, map, length, get_or, drop, replicate, sym, refl, ap, ◌∙◌, mul_assoc, suc-mul, add_comm, mul-pos, zero-mul, mul-one, le-mul_of_pos_right, arith}
-use Rattle.std.specs.List.{range_with_len, flat_map, AllByRecursion as All}
+use Rattle.std.specs.List.{range_with_len, flat_map, AllByRecursion}
 use Rattle.std.proofs.lemmas.List.{at_drop_more, at_drop_all, length-append, length-map}
 use Rattle.std.proofs.ByRecursion.{All-drop}
 use Rattle.model.specs.Kinds.{Meaning, Laws}
@@ -12,13 +12,13 @@ module _ (m : Meaning) (laws : Laws m) where
   some_conditions : (n : ℕ) → Size n → n ≤ m.largest → 1 ≤ m.conditions n
   some_conditions n size narrow = (laws.at n size.0 narrow).some
 
-  pub some_bodies : (ns : List ℕ) → All Size ns → All (λ n. n ≤ m.largest) ns → 1 ≤ body_count m ns
+  pub some_bodies : (ns : List ℕ) → AllByRecursion Size ns → AllByRecursion (λ n. n ≤ m.largest) ns → 1 ≤ body_count m ns
   some_bodies [] sized narrow = omega arith
   some_bodies (n ∷ ns) sized narrow =
       mul-pos (some_conditions n sized.0 narrow.0) (some_bodies ns sized.1 narrow.1)
 
   -- the rule without conditions is a body
-  pub body_bare : (ns : List ℕ) → All Size ns → All (λ n. n ≤ m.largest) ns → Body m ns (replicate (length ns) 0)
+  pub body_bare : (ns : List ℕ) → AllByRecursion Size ns → AllByRecursion (λ n. n ≤ m.largest) ns → Body m ns (replicate (length ns) 0)
   body_bare [] sized narrow = tt
   body_bare (n ∷ ns) sized narrow = (some_conditions n sized.0 narrow.0, body_bare ns sized.1 narrow.1)
 
@@ -46,7 +46,7 @@ pub count_all : (m : Meaning) (ns : List ℕ) (b i : ℕ) → length ns ≤ i �
 count_all m ns b i over so_far = sym (ap (λ (k : ℕ). b * k) (at_drop_all (body_count m) ns i over) ∙ mul-one b) ∙ so_far
 
 -- too many already, and there is at least one way to go on
-pub too_many : (m : Meaning) → Laws m → (ns : List ℕ) (b i : ℕ) → All Size ns → 1000000 < b → b * body_count m (drop i ns) ≡ body_count m ns → Listable m ns → ⊥
+pub too_many : (m : Meaning) → Laws m → (ns : List ℕ) (b i : ℕ) → AllByRecursion Size ns → 1000000 < b → b * body_count m (drop i ns) ≡ body_count m ns → Listable m ns → ⊥
 too_many m laws ns b i sized many so_far listable =
     let some = some_bodies m laws (drop i ns) (All-drop Size i ns sized) (All-drop (λ n. n ≤ m.largest) i ns listable.0) in
     let more : b ≤ b * body_count m (drop i ns) = le-mul_of_pos_right b some in

@@ -1,6 +1,6 @@
 -- What the near misses of a clear rule tell: whether a weaker condition leaves it clear. Assumes nothing.
 use Rattle.std.proofs.Common.{◌≡◌, ℕ, ◌+◌, ◌*◌, ◌<◌, ◌≤◌, Bool, true, false, not, ◌&&◌, eqb, ◌≢◌, List, length, get_or, set, Decides, sym, refl, ap, ◌∙◌, inl, inr, arith}
-use Rattle.std.specs.List.{ContainsAt as Has, AllByRecursion as All}
+use Rattle.std.specs.List.{ContainsAt as Has, AllByRecursion}
 use Rattle.std.proofs.ByRecursion.{All-get_or}
 use Rattle.std.proofs.lemmas.List.{get_or-set_same, get_or-set_other}
 use Rattle.std.proofs.lemmas.Bool.{cases_Bool, cases_eq}
@@ -20,7 +20,7 @@ module _ (m : Meaning) (ns : List ℕ) (opposed : List (List ℕ)) where
   clear_decides : (b : List ℕ) → Decides (clear m ns opposed b) ((v : List ℕ) → Has opposed v → Matches m ns b v → ⊥)
   clear_decides b = all_decides (λ v. not (matches m ns b v)) (λ v. Matches m ns b v → ⊥) (λ v. Decides-not (matches m ns b v) (matches_decides m ns b v)) opposed
 
-  module _ (laws : Laws m) (sized : All Size ns) (b : List ℕ) (long : length ns ≤ length b) (few : length ns ≤ 8) (clears : clear m ns opposed b ≡ true) (near : List Bool) (noted : Noted m ns opposed b near) where
+  module _ (laws : Laws m) (sized : AllByRecursion Size ns) (b : List ℕ) (long : length ns ≤ length b) (few : length ns ≤ 8) (clears : clear m ns opposed b ≡ true) (near : List Bool) (noted : Noted m ns opposed b near) where
     -- a rule with one condition changed matches a near miss there exactly when the new condition holds of its value
     module _ (i c : ℕ) (within : i < length ns) where
       matches_missed : (x : ℕ) (v : List ℕ) → Missed m ns b i x v → m.holds (get_or ns i 0) c x ≡ true → Matches m ns (set b i c) v

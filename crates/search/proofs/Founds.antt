@@ -2,7 +2,7 @@
 -- Assumes nothing.
 use Rattle.std.proofs.Common.{◌≡◌, ℕ, ◌<◌, Bool, true, false, not, ◌&&◌, ◌==◌, slice_index, slice_set, cond, List, [], ◌∷◌, map, length, None, Ok, Err, Result, filter, Option, sym, refl, ap, ◌∙◌, subst}
 use mathlib.Core.Path.{fun_ext}
-use Rattle.std.specs.List.{AllByRecursion as All}
+use Rattle.std.specs.List.{AllByRecursion}
 use Rattle.model.specs.Bodies.{bodies}
 use Rattle.model.specs.Forecasts.{Forecasted}
 use Rattle.model.specs.Foretold.{weight_of, Foretold}
@@ -51,7 +51,7 @@ module _ (m : Meaning) (ns : List ℕ) (sense : Sense) where
       not ((not (c == slice_index b i) && m.weaker (slice_index ns i) c (slice_index b i)) && passes (slice_set b i c)))) in
       ap test (fun_ext (clear_same seen))
 
-module _ (m : Meaning) (laws : Laws m) (s : Shape) (rows : List Row) (h : Head) (twelve : All Twelve rows) where
+module _ (m : Meaning) (laws : Laws m) (s : Shape) (rows : List Row) (h : Head) (twelve : AllByRecursion Twelve rows) where
   module _ (known : KnownHead s h) (listable : Listable m (features s)) (sense : Sense) where
     within : h.target < length (targets s)
     within = known_within (targets s) h.target h.value known

@@ -1,6 +1,6 @@
 -- From the places that the search fills to the listing of a shape's rows. Assumes nothing.
 use Rattle.std.proofs.Common.{◌≡◌, ℕ, ◌*◌, ◌<◌, ◌≤◌, List, [], ◌∷◌, ◌++◌, map, length, get_or, take, drop, replicate, None, filter, sym, refl, ap, ◌∙◌, subst, inl, inr, arith}
-use Rattle.std.specs.List.{flat_map, AllByRecursion as All}
+use Rattle.std.specs.List.{flat_map, AllByRecursion}
 use Rattle.std.proofs.ByRecursion.{all_kept_by, All-weaker}
 use Rattle.std.proofs.lemmas.List.{length-map, get_or_past}
 use Rattle.std.proofs.lemmas.Bool.{cases_lt}
@@ -55,7 +55,7 @@ pub record Asked (m : Meaning) (s : Shape) (rows : List Row) (h : Head) (ns : Li
   pub known : KnownHead s h
   pub lawful : Lawful 8 ns
   pub listable : Listable m ns
-  pub twelve : All Twelve rows
+  pub twelve : AllByRecursion Twelve rows
 
 module _ (m : Meaning) (laws : Laws m) (s : Shape) (rows : List Row) (h : Head) (ns : List ℕ) (seen : List Seen) (t v : ℕ) (asked : Asked m s rows h ns seen t v) (sense : Sense) (opposed : List (List ℕ)) (told : opposed ≡ states_against sense seen) where
   surveyed_head : seen ≡ surveyed s h.target h.value rows

@@ -1,7 +1,7 @@
 -- Bytes beyond the features do not matter. Assumes nothing.
 use Rattle.std.proofs.Common.{◌≡◌, ℕ, max, Bool, cond, not, ◌&&◌, List, [], ◌∷◌, map, length, get_or, take, replicate, Some, count_by, Option, unwrap_or, sym, refl, ap, ◌∙◌, arith}
 use mathlib.Core.Path.{fun_ext}
-use Rattle.std.specs.List.{AllByRecursion as All}
+use Rattle.std.specs.List.{AllByRecursion}
 use Rattle.std.proofs.lemmas.List.{get_or_append_left, get_or-take}
 use Rattle.model.specs.Kinds.{Meaning}
 use Rattle.model.specs.Memory.{place}
@@ -27,7 +27,7 @@ module _ (m : Meaning) (ns : List ℕ) where
     weight_place b long = ap (λ (p : Seen → Bool). count_by p seen) (fun_ext (λ s. ap (λ (t : Bool). not (against sense s) && t) (matches_place b s.state long)))
 
     -- the best weight, of rules in their places and of the rules
-    pub heaviest_place : (w v : List ℕ) → take (length ns) w ≡ v → (rules : List (List ℕ)) → All (λ b. length b ≡ length ns) rules → (best : Option ℕ)
+    pub heaviest_place : (w v : List ℕ) → take (length ns) w ≡ v → (rules : List (List ℕ)) → AllByRecursion (λ b. length b ≡ length ns) rules → (best : Option ℕ)
         → heaviest m ns sense seen w best (map place rules) ≡ heaviest m ns sense seen v best rules
     heaviest_place w v front [] long best = refl
     heaviest_place w v front (b ∷ rules) long best =

@@ -1,6 +1,6 @@
 -- Of the bodies that are alike up to the last condition that is not open, only the clear one can be best. Assumes nothing.
 use Rattle.std.proofs.Common.{◌≡◌, ℕ, ◌+◌, ◌-◌, ◌≤◌, Bool, true, false, cond, List, [], ◌∷◌, ◌++◌, map, length, get_or, take, drop, replicate, filter, sym, refl, ap, ◌∙◌, subst, inl, inr, arith}
-use Rattle.std.specs.List.{ContainsAt as Has, AllByRecursion as All}
+use Rattle.std.specs.List.{ContainsAt as Has, AllByRecursion}
 use Rattle.std.proofs.ByRecursion.{All-map, all-has}
 use Rattle.std.proofs.lemmas.List.{append_cancel_left, take-append-drop, length-drop, length-take-le, get_or_append_left, get_or-take, get_or-drop, get_or-replicate}
 use Rattle.std.proofs.lemmas.Bool.{cases_Bool, cases_lt}
@@ -19,7 +19,7 @@ use Rattle.search.proofs.Dominated.{taken_body, same_from_best}
 use Rattle.search.proofs.Splits.{body_take, body_drop, body_append}
 use Rattle.search.proofs.Steps.{rest_open}
 
-kept_by_none : {X : Type 0} (p : X → Bool) (xs : List X) → All (λ x. p x ≡ false) xs → filter p xs ≡ []
+kept_by_none : {X : Type 0} (p : X → Bool) (xs : List X) → AllByRecursion (λ x. p x ≡ false) xs → filter p xs ≡ []
 kept_by_none p [] h = refl
 kept_by_none p (x ∷ xs) h = ap (λ (t : Bool). cond t (x ∷ filter p xs) (filter p xs)) h.0 ∙ kept_by_none p xs h.1
 
@@ -54,7 +54,7 @@ module _ (m : Meaning) (ns b : List ℕ) (d : ℕ) (within : d ≤ length ns) (b
   end_once = (subst Once ends.1 (once_rising (bodies m (drop d ns)) (rising_bodies m (drop d ns)))).0
 
   body_other : (t : List ℕ) → Has ends.0 t → Body m (drop d ns) t
-  body_other t h = all-has (Body m (drop d ns)) ends.0 t (subst (All (Body m (drop d ns))) ends.1 (bodies_are m (drop d ns))).1 h
+  body_other t h = all-has (Body m (drop d ns)) ends.0 t (subst (AllByRecursion (Body m (drop d ns))) ends.1 (bodies_are m (drop d ns))).1 h
 
   body_alike : (t : List ℕ) → Body m (drop d ns) t → Body m ns (take d b ++ t)
   body_alike t k = subst (λ (xs : List ℕ). Body m xs (take d b ++ t)) (take-append-drop d ns) (body_append m (take d ns) (drop d ns) (take d b) t (body_take m ns b d body) k)

@@ -1,6 +1,6 @@
 -- Scanning the rows of a log one after another. Assumes nothing.
 use Rattle.std.proofs.Common.{◌≡◌, ℕ, ◌+◌, ◌<◌, eqb, List, length, get_or, take, sym, ap, ◌∙◌, subst, arith}
-use Rattle.std.specs.List.{AllByRecursion as All}
+use Rattle.std.specs.List.{AllByRecursion}
 use Rattle.std.proofs.lemmas.List.{get_or-take, length-take-le}
 use Rattle.std.proofs.ByRecursion.{All-get_or}
 use Rattle.std.proofs.lemmas.List.Sums.{fold_more}
@@ -15,7 +15,7 @@ use Rattle.search.specs.Scans.{StrayIn}
 use Rattle.search.specs.Surveys.{marked, surveyed}
 
 -- the first stray cell of the first row that has one
-pub first_stray : (s : Shape) (rows : List Row) (i : ℕ) (cells : List ℕ) (f : Stray) → i < length rows → cells ≡ (get_or rows i no_row).cells → All (LawfulRow s) (take i rows) → StrayIn s i cells f → FirstStray s rows f
+pub first_stray : (s : Shape) (rows : List Row) (i : ℕ) (cells : List ℕ) (f : Stray) → i < length rows → cells ≡ (get_or rows i no_row).cells → AllByRecursion (LawfulRow s) (take i rows) → StrayIn s i cells f → FirstStray s rows f
 first_stray s rows i cells f within read before astray =
     let at : cells ≡ (get_or rows f.row no_row).cells = read ∙ ap (λ (k : ℕ). (get_or rows k no_row).cells) (sym astray.row_is) in
     let long : length (take i rows) ≡ i = length-take-le i rows (omega arith) in

@@ -1,7 +1,7 @@
 -- A survey stands for the observations of its rows: which states are in it, and which of them came with the head.
 -- Assumes nothing.
 use Rattle.std.proofs.Common.{◌≡◌, ℕ, ◌+◌, ◌<◌, ◌≤◌, Bool, true, false, not, ◌||◌, eqb, ◌⊎◌, List, [], ◌∷◌, map, length, get_or, take, drop, replicate, Decides, fold, filter, sym, refl, ap, ◌∙◌, subst, inl, inr, arith}
-use Rattle.std.specs.List.{ContainsAt as Has, AllByRecursion as All}
+use Rattle.std.specs.List.{ContainsAt as Has, AllByRecursion}
 use Rattle.std.specs.Str.{bytes_eq}
 use Rattle.std.proofs.ByRecursion.{all-has}
 use Rattle.std.proofs.lemmas.Slice.Eq.{bytes_eq-Decides}
@@ -213,7 +213,7 @@ module _ (s : Shape) (t v : ℕ) (rows : List Row) where
       → ((s : Seen) (w : Bool) → Q s ⊎ Q (seen_as s.state w) → Q (seen_as s.state (s.with_head || w))) → Among seen Q → Among rows (λ r. Q (entry r))
   rows_from Q parts whole a = elim (folded_among Q parts whole entry [] rows a) [ inl none ↦ absurd (among_none Q none) | inr found ↦ found ]
 
-  module _ (few : length (features s) ≤ 8) (twelve : All Twelve rows) (known : t < length (targets s)) where
+  module _ (few : length (features s) ≤ 8) (twelve : AllByRecursion Twelve rows) (known : t < length (targets s)) where
     row_state : (r : Row) → Has rows r → take (length (features s)) (entry r).state ≡ (observation s r).state
     row_state r has =
         let long : length r.cells ≡ 12 = all-has Twelve rows r twelve has in

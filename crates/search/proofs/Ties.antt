@@ -1,7 +1,7 @@
 -- What a search computes over a survey is what the definitions say of the observations. Assumes nothing.
 use Rattle.std.proofs.Common.{◌≡◌, ℕ, ◌<◌, ◌≤◌, Bool, true, false, not, List, map, length, None, Decides, filter, sym, refl, ap, ◌∙◌, subst}
 use mathlib.Core.Path.{fun_ext}
-use Rattle.std.specs.List.{ContainsAt as Has, AllByRecursion as All}
+use Rattle.std.specs.List.{ContainsAt as Has, AllByRecursion}
 use Rattle.std.proofs.lemmas.List.{length-map}
 use Rattle.std.proofs.lemmas.List.Sums.{length-filter}
 use Rattle.std.proofs.lemmas.Bool.Decides.{same_from_decides, Decides-at, Decides-and, Decides-not, Decides-like}
@@ -41,7 +41,7 @@ beside : (sense : Sense) (e : Seen) → not (against sense e) ≡ against (oppos
 beside Can e = not_not e.with_head
 beside Cannot e = refl
 
-module _ (m : Meaning) (s : Shape) (t v : ℕ) (rows : List Row) (few : length (features s) ≤ 8) (twelve : All Twelve rows) (known : t < length (targets s)) where
+module _ (m : Meaning) (s : Shape) (t v : ℕ) (rows : List Row) (few : length (features s) ≤ 8) (twelve : AllByRecursion Twelve rows) (known : t < length (targets s)) where
   abbrev ns : List ℕ
   ns = features s
 

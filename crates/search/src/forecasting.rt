@@ -1,7 +1,7 @@
 // Forecasting an outcome for a state.
 ghost use Rattle.std.specs.Prelude.{◌≡◌, ◌≤◌, length, replicate, None};
 ghost use Rattle.std.specs.Option.{unwrap_or};
-ghost use Rattle.std.specs.List.{AllByRecursion as All};
+ghost use Rattle.std.specs.List.{AllByRecursion};
 ghost use Rattle.model.specs.Bodies.{Body};
 ghost use Rattle.model.specs.Foretold.{Foretold};
 ghost use Rattle.model.specs.Sizes.{Size};
@@ -33,7 +33,7 @@ fn share(pro: u32, contra: u32) -> u32
 // The best weight of the rules of one sense at a state; 0 where none matches.
 fn best_of<K: Kind>(sizes: &[u8], survey: &mut Survey, sense: Sense, state: &[u8; 8]) -> u32
     requires few { length sizes.now ≤ 8 }
-    requires sized { All Size sizes.now }
+    requires sized { AllByRecursion Size sizes.now }
     requires bare { Body K.Kind.meaning sizes.now (replicate (length sizes.now) 0) }
     ensures same { survey.new.seen.items ≡ survey.old.seen.items }
     ensures value { result ≡ unwrap_or (heaviest K.Kind.meaning sizes.now sense survey.old.seen.items state.now None (places K.Kind.meaning sizes.now (states_against sense survey.old.seen.items))) 0 }

@@ -1,6 +1,6 @@
 // Whether a consistent rule is optimal: weakening any single condition makes it inconsistent.
 ghost use Rattle.std.specs.Prelude.{◌≡◌, ◌<◌, ◌≤◌, true, not, length};
-ghost use Rattle.std.specs.List.{AllByRecursion as All};
+ghost use Rattle.std.specs.List.{AllByRecursion};
 ghost use Rattle.model.specs.Sizes.{Size};
 ghost use Rattle.search.specs.Misses.{spares, firm_at};
 ghost use Rattle.search.specs.Opposing.{clear, tight};
@@ -47,7 +47,7 @@ fn loosens<K: Kind>(sizes: &[u8], near: &[bool; 64], body: &[u8], feature: usize
 pub(crate) fn is_tight<K: Kind>(sizes: &[u8], opposed: &[[u8; 8]], body: &[u8]) -> bool
     requires long { length sizes.now ≤ length body.now }
     requires few { length sizes.now ≤ 8 }
-    requires sized { All Size sizes.now }
+    requires sized { AllByRecursion Size sizes.now }
     requires clears { clear K.Kind.meaning sizes.now opposed.now body.now ≡ true }
     ensures { result ≡ tight K.Kind.meaning sizes.now opposed.now body.now }
 {

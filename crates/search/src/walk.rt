@@ -1,7 +1,7 @@
 // A walk over the optimal rules of a head and a sense, in rising order of their codes.
 ghost use Rattle.std.specs.Prelude.{◌≡◌, ◌-◌, ◌≤◌, true, [], ◌++◌, length, take, drop, replicate, MatchOption};
 ghost use Rattle.std.specs.Option.{option_to_list};
-ghost use Rattle.std.specs.List.{AllByRecursion as All};
+ghost use Rattle.std.specs.List.{AllByRecursion};
 ghost use Rattle.model.specs.Sizes.{Size};
 ghost use Rattle.search.specs.Walks.{start, left, alike, Walking, to_find};
 
@@ -44,7 +44,7 @@ impl Walk {
     // The next optimal rule, one code a byte, with 0 beyond the features.
     pub(crate) fn next<K: Kind>(&mut self, sizes: &[u8], opposed: &[[u8; 8]]) -> Option<[u8; 8]>
         requires few { length sizes.now ≤ 8 }
-        requires sized { All Size sizes.now }
+        requires sized { AllByRecursion Size sizes.now }
         requires walking { Walking K.Kind.meaning sizes.now self.old }
         ensures walking { Walking K.Kind.meaning sizes.now self.new }
         ensures value { to_find K.Kind.meaning sizes.now opposed.now self.old ≡ option_to_list result ++ to_find K.Kind.meaning sizes.now opposed.now self.new }

@@ -1,7 +1,7 @@
 // The weight of a rule, and the best weight of the rules that match a state.
 ghost use Rattle.std.specs.Prelude.{◌≡◌, ◌≤◌, length, replicate, None};
 ghost use Rattle.std.specs.Option.{unwrap_or};
-ghost use Rattle.std.specs.List.{AllByRecursion as All};
+ghost use Rattle.std.specs.List.{AllByRecursion};
 ghost use Rattle.model.specs.Bodies.{Body};
 ghost use Rattle.model.specs.Sizes.{Size};
 ghost use Rattle.search.specs.Walks.{places};
@@ -47,7 +47,7 @@ pub(crate) fn best_weight<K: Kind>(
     state: &[u8; 8],
 ) -> Option<u32>
     requires few { length sizes.now ≤ 8 }
-    requires sized { All Size sizes.now }
+    requires sized { AllByRecursion Size sizes.now }
     requires bare { Body K.Kind.meaning sizes.now (replicate (length sizes.now) 0) }
     requires bound { length seen.now ≤ 65535 }
     ensures value { result ≡ heaviest K.Kind.meaning sizes.now sense seen.now state.now None (places K.Kind.meaning sizes.now opposed.now) }

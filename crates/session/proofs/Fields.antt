@@ -1,6 +1,6 @@
 -- Lists of numbers in a text, field by field. Assumes nothing.
 use Rattle.std.proofs.Common.{◌≡◌, ℕ, ◌+◌, ◌-◌, ◌<◌, ◌≤◌, List, [], ◌∷◌, ◌++◌, length, get_or, take, drop, decimal, sym, refl, ap, ◌∙◌, subst, append_assoc, append-nil, arith}
-use Rattle.std.specs.List.{AllByRecursion as All}
+use Rattle.std.specs.List.{AllByRecursion}
 use Rattle.std.proofs.lemmas.List.{drop_more, drop-drop, take-append-drop, length-drop, length-take-le, take_rest}
 use Rattle.std.proofs.ByRecursion.{All-push}
 use Rattle.std.proofs.lemmas.Fmt.{decimal_injective, decimal_nonempty}
@@ -10,7 +10,7 @@ use Rattle.session.proofs.Runs.{same_runs, decimal_digits}
 -- Some fields are read up to a place, and the rest of the text is fields wherever the text is.
 pub record Left (bytes ns : List ℕ) (at : ℕ) : Type 0 where
   pub within : at ≤ length bytes
-  pub small : All Small ns
+  pub small : AllByRecursion Small ns
   pub read : bytes ≡ fields ns ++ drop at bytes
   pub rest : (ms : List ℕ) → Lists bytes ms → (ks : List ℕ) × Lists (drop at bytes) ks
 
@@ -29,7 +29,7 @@ fields_push [] n = ap (λ (xs : List ℕ). 32 ∷ xs) (append-nil (decimal n))
 fields_push (k ∷ ns) n = ap (λ (xs : List ℕ). 32 ∷ (decimal k ++ xs)) (fields_push ns n) ∙ ap (λ (xs : List ℕ). 32 ∷ xs) (sym (append_assoc (decimal k) (fields ns) (32 ∷ decimal n)))
 
 -- where a text is fields from a place on, a space stands there, and a number after it
-pub fields_first : (bytes : List ℕ) (at : ℕ) (ks : List ℕ) → at < length bytes → Lists (drop at bytes) ks → (get_or bytes at 0 ≡ 32) × ((n : ℕ) × (ms : List ℕ) × Small n × All Small ms × (drop (at + 1) bytes ≡ decimal n ++ fields ms))
+pub fields_first : (bytes : List ℕ) (at : ℕ) (ks : List ℕ) → at < length bytes → Lists (drop at bytes) ks → (get_or bytes at 0 ≡ 32) × ((n : ℕ) × (ms : List ℕ) × Small n × AllByRecursion Small ms × (drop (at + 1) bytes ≡ decimal n ++ fields ms))
 fields_first bytes at [] inside lists =
     let e = lists.1 in
     let more = drop_more bytes at 0 inside in
@@ -82,7 +82,7 @@ left_more bytes ns at n digits more pushed left inside space begins =
     let read = left.read in
     record {
       within = omega (arith, length-drop (at + 1) bytes, begins.1);
-      small = subst (All Small) (sym pushed) (All-push Small ns n left.small begins.0);
+      small = subst (AllByRecursion Small) (sym pushed) (All-push Small ns n left.small begins.0);
       read = cc;
       rest = λ ms lists.
           let t = left.rest ms lists in
@@ -92,7 +92,7 @@ left_more bytes ns at n digits more pushed left inside space begins =
     }
 
 -- the numbers of fields are the only ones
-pub same_from_fields : (ns ms : List ℕ) → All Small ns → All Small ms → fields ns ≡ fields ms → ns ≡ ms
+pub same_from_fields : (ns ms : List ℕ) → AllByRecursion Small ns → AllByRecursion Small ms → fields ns ≡ fields ms → ns ≡ ms
 same_from_fields [] [] small small' e = refl
 same_from_fields [] (m ∷ ms) small small' e = let z : ◌≡◌ {A = ℕ} 0 1 = cc in absurd (omega arith)
 same_from_fields (n ∷ ns) [] small small' e = let z : ◌≡◌ {A = ℕ} 0 1 = cc in absurd (omega arith)

@@ -2,7 +2,7 @@
 use Rattle.std.specs.Prelude.{◌≡◌, ℕ, ◌≤◌, List, [], ◌∷◌, ◌++◌, length, take, drop, codes, decimal, ◌≢◌}
 use Rattle.std.specs.Str.Parse.{digits_value as value, AllDigits}
 use Rattle.std.specs.Char.{IsAsciiDigit}
-use Rattle.std.specs.List.{AllByRecursion as All}
+use Rattle.std.specs.List.{AllByRecursion}
 use Rattle.model.specs.declared.sense.Sense.{Sense}
 use Rattle.model.specs.declared.sense.Sense.TheVariants.{Can, Cannot}
 
@@ -17,7 +17,7 @@ fields (n ∷ ns) = codes " " ++ (decimal n ++ fields ns)
 
 -- the bytes are a list of numbers, none too large
 abbrev pub Lists : List ℕ → List ℕ → Type 0
-Lists bytes ns = All Small ns × (bytes ≡ fields ns)
+Lists bytes ns = AllByRecursion Small ns × (bytes ≡ fields ns)
 
 -- the bytes are no such list; longer texts than a session takes are not spoken of
 abbrev pub NoList : List ℕ → Type 0
@@ -42,7 +42,7 @@ NoSign bytes = (front : List ℕ) (sense : Sense) → Signed bytes front sense �
 
 -- the bytes are a target, a value and the sign of a sense
 abbrev pub Asks : List ℕ → ℕ → ℕ → Sense → Type 0
-Asks bytes target value sense = All Small (target ∷ value ∷ []) × Signed bytes (fields (target ∷ value ∷ [])) sense
+Asks bytes target value sense = AllByRecursion Small (target ∷ value ∷ []) × Signed bytes (fields (target ∷ value ∷ [])) sense
 
 -- the bytes are nothing of the kind
 abbrev pub NoAsk : List ℕ → Type 0
@@ -74,7 +74,7 @@ numbers (forecast target value state) = target ∷ value ∷ state
 
 -- the bytes are the text of a line, and its numbers are not too large
 abbrev pub Says : List ℕ → Line → Type 0
-Says bytes line = All Small (numbers line) × (bytes ≡ text line)
+Says bytes line = AllByRecursion Small (numbers line) × (bytes ≡ text line)
 
 -- the bytes are the text of no line; longer lines than a session takes are not spoken of
 abbrev pub NoLine : List ℕ → Type 0

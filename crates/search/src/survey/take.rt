@@ -1,6 +1,6 @@
 // Taking the survey of a log.
 ghost use Rattle.std.specs.Prelude.{◌≡◌, ◌+◌, ◌<◌, ◌≤◌, [], length, IfOk, vec_len, MatchOption, MatchResult};
-ghost use Rattle.std.specs.List.{AllByRecursion as All};
+ghost use Rattle.std.specs.List.{AllByRecursion};
 ghost use Rattle.model.specs.Strays.{LawfulRow, FirstStray};
 ghost use Rattle.search.specs.Surveys.{marked, surveyed, Unseen, SeenAt};
 
@@ -40,7 +40,7 @@ impl Survey {
         value: u8,
     ) -> Result<(), Stray>
         requires { target < 4 }
-        ensures { MatchResult result (λ _. All (LawfulRow shape.now) (L.Log.rows log.now) × (self.new.seen.items ≡ surveyed shape.now target value (L.Log.rows log.now))) (FirstStray shape.now (L.Log.rows log.now)) }
+        ensures { MatchResult result (λ _. AllByRecursion (LawfulRow shape.now) (L.Log.rows log.now) × (self.new.seen.items ≡ surveyed shape.now target value (L.Log.rows log.now))) (FirstStray shape.now (L.Log.rows log.now)) }
     {
         self.seen.clear();
         'rows: for row in 0..log.count() {

@@ -1,5 +1,5 @@
 use Rattle.std.proofs.Common.{◌≡◌, ◌<◌, List, length, take, ap, ◌∙◌, subst, arith, rules}
-use Rattle.std.specs.List.{AllByRecursion as All}
+use Rattle.std.specs.List.{AllByRecursion}
 use Rattle.std.proofs.lemmas.List.{take_all}
 use Rattle.agreement.specs.Asking.{Leave, Right}
 use Rattle.agreement.specs.declared.questions.Asked.{Asked}
@@ -40,7 +40,7 @@ returns g c =
     let asked = c.questions.questions in
     let inv = c.questions.invariant in
     let whole : take c.questions.i asked ≡ asked = take_all c.questions.i asked (search rules) in
-    let alike : All (Right m first.shape second.shape rows rows' room room') asked = subst (All (Right m first.shape second.shape rows rows' room room')) whole inv.7 in
+    let alike : AllByRecursion (Right m first.shape second.shape rows rows' room room') asked = subst (AllByRecursion (Right m first.shape second.shape rows rows' room room')) whole inv.7 in
     record {
       first_shape = inv.0;
       first_log = inv.1;

@@ -1,5 +1,5 @@
 use Rattle.std.proofs.Common.{◌≡◌, map, length, take}
-use Rattle.std.specs.List.{AllByRecursion as All}
+use Rattle.std.specs.List.{AllByRecursion}
 use Rattle.agreement.specs.Asking.{question_of, Leave, Right}
 use Rattle.agreement.proofs.comparing.compare.Given as goal
 
@@ -13,4 +13,4 @@ invariant-questions g l =
     × (map question_of l.questions ≡ map question_of l.initial.questions)
     × Leave g.K.Kind.meaning l.initial.first.shape (g.L.Log.rows l.initial.first.log) (take l.i l.questions) l.initial.left l.left
     × Leave g.K.Kind.meaning l.initial.second.shape (g.M.Log.rows l.initial.second.log) (take l.i l.questions) l.initial.right l.right
-    × All (Right g.K.Kind.meaning l.initial.first.shape l.initial.second.shape (g.L.Log.rows l.initial.first.log) (g.M.Log.rows l.initial.second.log) (length l.initial.left) (length l.initial.right)) (take l.i l.questions)
+    × AllByRecursion (Right g.K.Kind.meaning l.initial.first.shape l.initial.second.shape (g.L.Log.rows l.initial.first.log) (g.M.Log.rows l.initial.second.log) (length l.initial.left) (length l.initial.right)) (take l.i l.questions)

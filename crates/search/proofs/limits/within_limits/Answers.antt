@@ -1,5 +1,5 @@
 use Rattle.std.proofs.Common.{◌≡◌, ℕ, ◌+◌, ◌*◌, ◌≤◌, drop, refl, ap, ◌∙◌, subst, mul-le-mul, arith, rules}
-use Rattle.std.specs.List.{AllByRecursion as All}
+use Rattle.std.specs.List.{AllByRecursion}
 use Rattle.std.proofs.lemmas.List.{take_all}
 use Rattle.std.proofs.ByRecursion.{All-get_or, All-more}
 use Rattle.model.specs.Limits.{body_count}
@@ -43,6 +43,6 @@ pub returns : goal.returns
 returns g c =
     let m = g.K.Kind.meaning in
     let ns = c.args.sizes.now in (
-      subst (All (λ n. n ≤ m.largest)) (take_all c.sizes.size-index ns c.sizes-test.false) c.sizes.invariant.1,
+      subst (AllByRecursion (λ n. n ≤ m.largest)) (take_all c.sizes.size-index ns c.sizes-test.false) c.sizes.invariant.1,
       subst (λ (k : ℕ). k ≤ 1000000) (count_all m ns c.sizes.bodies c.sizes.size-index c.sizes-test.false c.sizes.invariant.2) c.sizes.invariant.0,
     )

@@ -1,5 +1,5 @@
 use Rattle.std.proofs.Common.{◌≡◌, ℕ, ◌+◌, ◌<◌, ◌≤◌, Bool, eqb, List, length, get_or, take, sym, ap, ◌∙◌, subst, arith}
-use Rattle.std.specs.List.{AllByRecursion as All}
+use Rattle.std.specs.List.{AllByRecursion}
 use Rattle.std.proofs.lemmas.List.{take_all}
 use Rattle.std.proofs.ByRecursion.{All-more}
 use Rattle.std.proofs.lemmas.Result.{err_from_is_err_and}
@@ -45,6 +45,6 @@ returns g c =
     let s = c.args.shape.now in
     let rows = g.L.Log.rows c.args.log.now in
     let over : length rows ≤ c.rows.row = omega (arith, c.count-row-end.ensures, c.rows-test.false) in (
-      subst (All (LawfulRow s)) (take_all c.rows.row rows over) c.rows.invariant.1,
+      subst (AllByRecursion (LawfulRow s)) (take_all c.rows.row rows over) c.rows.invariant.1,
       c.rows.invariant.2 ∙ ap (surveyed s c.args.target c.args.value) (take_all c.rows.row rows over),
     )

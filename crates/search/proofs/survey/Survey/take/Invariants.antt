@@ -1,5 +1,5 @@
 use Rattle.std.proofs.Common.{◌≡◌, ◌≤◌, take, vec_items, vec_len}
-use Rattle.std.specs.List.{AllByRecursion as All}
+use Rattle.std.specs.List.{AllByRecursion}
 use Rattle.model.specs.Strays.{LawfulRow}
 use Rattle.search.specs.Surveys.{surveyed}
 use Rattle.search.proofs.survey.Survey.take.Given as goal
@@ -9,5 +9,5 @@ abbrev pub invariant-rows : goal.invariant-rows
 invariant-rows g l =
     let rows = take l.row (g.L.Log.rows l.log) in
     (vec_len l.self.seen ≤ l.row)
-    × All (LawfulRow l.shape) rows
+    × AllByRecursion (LawfulRow l.shape) rows
     × (vec_items l.self.seen ≡ surveyed l.shape l.target l.value rows)
