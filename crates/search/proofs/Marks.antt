@@ -1,14 +1,10 @@
 -- Marking one more state in a survey. Assumes nothing.
-use Rattle.std.proofs.Common.{◌≡◌, ℕ, zero, suc, Bool, true, false, cond, ◌||◌, List, [], ◌∷◌, ◌++◌, length, get_or, set, Decides, sym, refl, ap, ◌∙◌, le_of_suc-le-suc, not-suc-le-zero, arith}
+use Rattle.std.proofs.Common.{◌≡◌, ℕ, zero, suc, ◌<◌, Bool, true, false, cond, ◌||◌, List, [], ◌∷◌, ◌++◌, length, get_or, set, Decides, sym, refl, ap, ◌∙◌, le_of_suc-le-suc, not-suc-le-zero, arith}
 use Rattle.std.specs.Str.{bytes_eq}
 use Rattle.std.proofs.lemmas.Slice.Eq.{bytes_eq-Decides}
 use Rattle.std.proofs.lemmas.List.{set-get_or}
 use Rattle.search.specs.Surveys.{Unseen, SeenAt, marked}
 use Rattle.search.specs.declared.survey.Seen.{Seen}
-
--- what the checker reads beyond a survey's end
-abbrev pub no_seen : Seen
-no_seen = record { state = []; with_head = false }
 
 decided_no : {P : Type 0} (b : Bool) → Decides b P → (P → ⊥) → b ≡ false
 decided_no true d never = absurd (never (d.0 refl))

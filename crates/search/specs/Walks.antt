@@ -1,10 +1,12 @@
 -- A walk over the bodies: what it has still to look at, and which rules it has still to find. Assumes nothing.
-use Rattle.std.specs.Prelude.{◌≡◌, ℕ, ◌-◌, true, cond, List, [], ◌++◌, map, length, take, drop, replicate, filter}
+use Rattle.std.specs.Prelude.{◌≡◌, ℕ, ◌-◌, Bool, true, cond, List, [], map, length, take, drop, replicate, filter}
 use Rattle.model.specs.Kinds.{Meaning}
 use Rattle.model.specs.Bodies.{Body, bodies}
 use Rattle.model.specs.Memory.{place}
+use Rattle.model.specs.declared.sense.Sense.{Sense}
 use Rattle.search.specs.Rest.{rest}
-use Rattle.search.specs.Opposing.{best}
+use Rattle.search.specs.Surveys.{best}
+use Rattle.search.specs.declared.survey.Seen.{Seen}
 use Rattle.search.specs.declared.walk.Walk.{Walk}
 
 -- a walk that has looked at nothing yet
@@ -16,10 +18,6 @@ module _ (m : Meaning) (ns : List ℕ) where
   abbrev pub left : Walk → List (List ℕ)
   left w = cond w.more (rest m ns (take (length ns) w.body)) []
 
-  -- the bodies that have the first d conditions of one
-  abbrev pub alike : ℕ → List ℕ → List (List ℕ)
-  alike d b = map (λ t. take d b ++ t) (bodies m (drop d ns))
-
   -- what a walk stands at is a body, while there is one, with 0 beyond the features
   pub record Walking (w : Walk) : Type 0 where
     pub long : length w.body ≡ 8
@@ -27,9 +25,9 @@ module _ (m : Meaning) (ns : List ℕ) where
     pub body : w.more ≡ true → Body m ns (take (length ns) w.body)
 
   -- the rules that a walk has still to find, each in its place
-  abbrev pub to_find : List (List ℕ) → Walk → List (List ℕ)
-  to_find opposed w = map place (filter (best m ns opposed) (left w))
+  abbrev pub to_find : Sense → List Seen → Walk → List (List ℕ)
+  to_find sense seen w = map place (filter (best m ns sense seen) (left w))
 
   -- all the rules, each in its place
-  abbrev pub places : List (List ℕ) → List (List ℕ)
-  places opposed = map place (filter (best m ns opposed) (bodies m ns))
+  abbrev pub places : Sense → List Seen → List (List ℕ)
+  places sense seen = map place (filter (best m ns sense seen) (bodies m ns))

@@ -1,6 +1,6 @@
 // The bodies of a shape, in rising order of their codes, feature 0 first.
 ghost use Rattle.model.specs.Bodies.{Body};
-ghost use Rattle.search.specs.Rest.{Advanced, Depth, Reach};
+ghost use Rattle.search.specs.Rest.{Advanced};
 
 use model::Kind;
 
@@ -23,22 +23,4 @@ pub(crate) fn advance<K: Kind>(sizes: &[u8], body: &mut [u8]) -> bool
         body[0] = 0;
         false
     }
-}
-
-// How many conditions there are up to the last one that is not open.
-fn depth(body: &[u8]) -> usize
-    ensures { Depth body.now result }
-{
-    let mut depth = body.len();
-    'conditions: while depth > 0 && body[depth - 1] == 0 {
-        depth -= 1;
-    }
-    depth
-}
-
-// How many conditions to step on in. All that differ from a clear body only after its depth are dominated by it.
-pub(crate) fn reach(clear: bool, body: &[u8]) -> usize
-    ensures { Reach clear body.now result }
-{
-    if clear { depth(body) } else { body.len() }
 }

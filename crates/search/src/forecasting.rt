@@ -1,16 +1,8 @@
 // Forecasting an outcome for a state.
-ghost use Rattle.std.specs.Prelude.{◌≡◌, ◌≤◌, length, replicate, None};
-ghost use Rattle.std.specs.Option.{unwrap_or};
-ghost use Rattle.std.specs.List.{AllByRecursion};
-ghost use Rattle.model.specs.Bodies.{Body};
-ghost use Rattle.model.specs.Foretold.{Foretold};
-ghost use Rattle.model.specs.Sizes.{Size};
+ghost use Rattle.std.specs.Prelude.{◌≡◌, ◌≤◌};
 ghost use Rattle.model.specs.Forecasts.{percentage, Forecasted};
 ghost use Rattle.model.specs.declared.sense.Sense.TheVariants.{Can, Cannot};
 ghost use Rattle.search.specs.Found.{best_matching};
-ghost use Rattle.search.specs.Opposing.{states_against};
-ghost use Rattle.search.specs.Walks.{places};
-ghost use Rattle.search.specs.Weights.{heaviest};
 
 use super::heads::known_head;
 use super::limits::within_limits;
@@ -30,19 +22,6 @@ fn share(pro: u32, contra: u32) -> u32
     100 * pro / (pro + contra)
 }
 
-// The best weight of the rules of one sense at a state; 0 where none matches.
-fn best_of<K: Kind>(sizes: &[u8], survey: &mut Survey, sense: Sense, state: &[u8; 8]) -> u32
-    requires few { length sizes.now ≤ 8 }
-    requires sized { AllByRecursion Size sizes.now }
-    requires bare { Body K.Kind.meaning sizes.now (replicate (length sizes.now) 0) }
-    ensures same { survey.new.seen.items ≡ survey.old.seen.items }
-    ensures value { result ≡ unwrap_or (heaviest K.Kind.meaning sizes.now sense survey.old.seen.items state.now None (places K.Kind.meaning sizes.now (states_against sense survey.old.seen.items))) 0 }
-    ensures bound { result ≤ 65535 }
-{
-    survey.oppose(sense);
-    best_weight::<K>(sizes, survey.seen(), survey.opposed(), sense, state).unwrap_or(0)
-}
-
 // For, against and the percentage of a head at a state.
 pub fn forecast<K: Kind, L: Log>(
     shape: &Shape,
@@ -51,8 +30,7 @@ pub fn forecast<K: Kind, L: Log>(
     head: Head,
     state: &[u16],
 ) -> Result<(u32, u32, u32), Refusal>
-    ensures answer { Forecasted K.Kind.meaning shape.now (L.Log.rows log.now) head state.now (best_matching K.Kind.meaning shape.now (L.Log.rows log.now) head Can state.now) (best_matching K.Kind.meaning shape.now (L.Log.rows log.now) head Cannot state.now) result }
-    ensures told { Foretold K.Kind.meaning shape.now (L.Log.rows log.now) head state.now result }
+    ensures { Forecasted K.Kind.meaning shape.now (L.Log.rows log.now) head state.now (best_matching K.Kind.meaning shape.now (L.Log.rows log.now) head Can state.now) (best_matching K.Kind.meaning shape.now (L.Log.rows log.now) head Cannot state.now) result }
 {
     let (target, value) = known_head(shape, head)?;
     let sizes = shape.feature_sizes();
@@ -61,7 +39,8 @@ pub fn forecast<K: Kind, L: Log>(
     };
     within_limits::<K>(sizes)?;
     survey.take(shape, log, target, value)?;
-    let pro = best_of::<K>(sizes, survey, Sense::Can, &known);
-    let contra = best_of::<K>(sizes, survey, Sense::Cannot, &known);
+    let seen = survey.seen();
+    let pro = best_weight::<K>(sizes, seen, Sense::Can, &known).unwrap_or(0);
+    let contra = best_weight::<K>(sizes, seen, Sense::Cannot, &known).unwrap_or(0);
     Ok((pro, contra, share(pro, contra)))
 }

@@ -7,7 +7,6 @@ mod forecasting;
 mod heads;
 mod limits;
 mod listing;
-mod near;
 mod optimal;
 mod rules;
 mod survey;

@@ -1,6 +1,5 @@
 // Listing every optimal rule of a head and a sense.
 ghost use Rattle.model.specs.Listed.{Listed};
-ghost use Rattle.model.specs.Wholes.{ListedWhole, Whole};
 ghost use Rattle.search.specs.Found.{found};
 
 use super::heads::known_head;
@@ -18,20 +17,17 @@ pub fn list<K: Kind, L: Log>(
     sense: Sense,
     rules: &mut [u8],
 ) -> Result<u32, Refusal>
-    ensures answer { Listed K.Kind.meaning shape.now (L.Log.rows log.now) head (found K.Kind.meaning shape.now (L.Log.rows log.now) head sense) rules.old rules.new result }
-    ensures listing { ListedWhole K.Kind.meaning shape.now (L.Log.rows log.now) head sense rules.old rules.new result }
-    ensures whole { Whole K.Kind.meaning shape.now (L.Log.rows log.now) head sense rules.new result }
+    ensures { Listed K.Kind.meaning shape.now (L.Log.rows log.now) head (found K.Kind.meaning shape.now (L.Log.rows log.now) head sense) rules.old rules.new result }
 {
     let (target, value) = known_head(shape, head)?;
     let sizes = shape.feature_sizes();
     within_limits::<K>(sizes)?;
     survey.take(shape, log, target, value)?;
-    survey.oppose(sense);
-    let opposed = survey.opposed();
-    let many = count::<K>(sizes, opposed);
+    let seen = survey.seen();
+    let many = count::<K>(sizes, seen, sense);
     if many as usize > rules.len() / 8 {
         return Err(Refusal::Rules(many));
     }
-    write::<K>(sizes, opposed, rules);
+    write::<K>(sizes, seen, sense, rules);
     Ok(many)
 }

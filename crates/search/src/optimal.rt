@@ -1,59 +1,67 @@
 // Whether a consistent rule is optimal: weakening any single condition makes it inconsistent.
-ghost use Rattle.std.specs.Prelude.{◌≡◌, ◌<◌, ◌≤◌, true, not, length};
-ghost use Rattle.std.specs.List.{AllByRecursion};
-ghost use Rattle.model.specs.Sizes.{Size};
-ghost use Rattle.search.specs.Misses.{spares, firm_at};
-ghost use Rattle.search.specs.Opposing.{clear, tight};
+ghost use Rattle.std.specs.Prelude.{◌≡◌, ◌<◌, ◌≤◌, not, length};
+ghost use Rattle.search.specs.Surveys.{loose, tight_at, tight};
 
-use super::near::near_misses;
-use model::Kind;
+use super::consistent::consistent;
+use super::survey::Seen;
+use model::{Kind, Sense};
 
-// Whether a condition on one feature holds of none of the near misses there.
-fn lets_none_in<K: Kind>(sizes: &[u8], near: &[bool; 64], feature: usize, code: u8) -> bool
+// Whether a code is another, weaker condition on one feature that leaves the rule consistent.
+fn loosens_by<K: Kind>(
+    sizes: &[u8],
+    seen: &[Seen],
+    sense: Sense,
+    body: &mut [u8],
+    feature: usize,
+    other: u8,
+) -> bool
+    requires long { length sizes.now ≤ length body.old }
     requires few { length sizes.now ≤ 8 }
     requires within { feature < length sizes.now }
-    ensures { result ≡ spares K.Kind.meaning sizes.now near.now feature code }
+    ensures same { body.new ≡ body.old }
+    ensures value { result ≡ loose K.Kind.meaning sizes.now sense seen.now body.old feature other }
 {
-    'values: for value in 0..8u8 {
-        if near[8 * feature + usize::from(value)] && K::holds(sizes[feature], code, value) {
-            return false;
-        }
+    let code = body[feature];
+    if other == code || !K::weaker(sizes[feature], other, code) {
+        return false;
     }
-    true
+    body[feature] = other;
+    let clear = consistent::<K>(sizes, seen, sense, body);
+    body[feature] = code;
+    clear
 }
 
-// Whether some weaker condition on one feature leaves the rule consistent: one that lets no near miss in.
-fn loosens<K: Kind>(sizes: &[u8], near: &[bool; 64], body: &[u8], feature: usize) -> bool
-    requires long { length sizes.now ≤ length body.now }
+// Whether some weaker condition on one feature leaves the rule consistent.
+fn loosens<K: Kind>(
+    sizes: &[u8],
+    seen: &[Seen],
+    sense: Sense,
+    body: &mut [u8],
+    feature: usize,
+) -> bool
+    requires long { length sizes.now ≤ length body.old }
     requires few { length sizes.now ≤ 8 }
     requires within { feature < length sizes.now }
-    ensures { not result ≡ firm_at K.Kind.meaning sizes.now near.now body.now feature }
+    ensures same { body.new ≡ body.old }
+    ensures value { not result ≡ tight_at K.Kind.meaning sizes.now sense seen.now body.old feature }
 {
-    let size = sizes[feature];
-    let code = body[feature];
-    'codes: for other in 0..K::conditions(size) {
-        if other == code || !K::weaker(size, other, code) {
-            continue 'codes;
-        }
-        if lets_none_in::<K>(sizes, near, feature, other) {
+    'codes: for other in 0..K::conditions(sizes[feature]) {
+        if loosens_by::<K>(sizes, seen, sense, body, feature, other) {
             return true;
         }
     }
     false
 }
 
-// Whether no single condition of a consistent rule can be weakened: one look at the states against finds its near
-// misses, and each weaker condition has to let one of them in.
-pub(crate) fn is_tight<K: Kind>(sizes: &[u8], opposed: &[[u8; 8]], body: &[u8]) -> bool
-    requires long { length sizes.now ≤ length body.now }
+// Whether no single condition can be weakened.
+pub(crate) fn is_tight<K: Kind>(sizes: &[u8], seen: &[Seen], sense: Sense, body: &mut [u8]) -> bool
+    requires long { length sizes.now ≤ length body.old }
     requires few { length sizes.now ≤ 8 }
-    requires sized { AllByRecursion Size sizes.now }
-    requires clears { clear K.Kind.meaning sizes.now opposed.now body.now ≡ true }
-    ensures { result ≡ tight K.Kind.meaning sizes.now opposed.now body.now }
+    ensures same { body.new ≡ body.old }
+    ensures value { result ≡ tight K.Kind.meaning sizes.now sense seen.now body.old }
 {
-    let near = near_misses::<K>(sizes, opposed, body);
     'features: for feature in 0..sizes.len() {
-        if loosens::<K>(sizes, &near, body, feature) {
+        if loosens::<K>(sizes, seen, sense, body, feature) {
             return false;
         }
     }

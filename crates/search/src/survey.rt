@@ -8,17 +8,13 @@ pub(crate) struct Seen {
     pub(crate) with_head: bool,
 }
 
-// Room for the survey of any log and for the states of it that are against a head, got once, so that no listing or
-// forecast allocates.
+// Room for the survey of any log, got once, so that no listing or forecast allocates.
 #[derive(Drop)]
 pub struct Survey {
     seen: Vec<Seen>,
-    opposed: Vec<[u8; 8]>,
     ghost room: { 65535 ≤ vec_capacity seen },
     ghost few: { vec_len seen ≤ 65535 },
-    ghost aside: { 65535 ≤ vec_capacity opposed },
 }
 
-mod against;
 mod rows;
 mod take;

@@ -1,14 +1,14 @@
 // A walk over the optimal rules of a head and a sense, in rising order of their codes.
-ghost use Rattle.std.specs.Prelude.{◌≡◌, ◌-◌, ◌≤◌, true, [], ◌++◌, length, take, drop, replicate, MatchOption};
+ghost use Rattle.std.specs.Prelude.{◌≡◌, ◌≤◌, true, [], ◌∷◌, ◌++◌, length, take, MatchOption};
 ghost use Rattle.std.specs.Option.{option_to_list};
-ghost use Rattle.std.specs.List.{AllByRecursion};
-ghost use Rattle.model.specs.Sizes.{Size};
-ghost use Rattle.search.specs.Walks.{start, left, alike, Walking, to_find};
+ghost use Rattle.model.specs.Memory.{place};
+ghost use Rattle.search.specs.Walks.{start, left, Walking, to_find};
 
-use super::bodies::{advance, reach};
+use super::bodies::advance;
 use super::consistent::consistent;
 use super::optimal::is_tight;
-use model::Kind;
+use super::survey::Seen;
+use model::{Kind, Sense};
 
 // The next body to look at, if there is one more.
 #[derive(Clone, Copy)]
@@ -28,33 +28,40 @@ impl Walk {
         }
     }
 
-    // Goes on to the next body that differs in the first `depth` conditions; after them all are open.
-    fn step<K: Kind>(&mut self, sizes: &[u8], depth: usize)
+    // The body that the walk stands at; the walk goes on to the next one.
+    fn step<K: Kind>(&mut self, sizes: &[u8]) -> [u8; 8]
         requires few { length sizes.now ≤ 8 }
         requires walking { Walking K.Kind.meaning sizes.now self.old }
         requires more { self.old.more ≡ true }
-        requires within { depth ≤ length sizes.now }
-        requires zeros { drop depth (take (length sizes.now) self.old.body) ≡ replicate (length sizes.now - depth) 0 }
         ensures walking { Walking K.Kind.meaning sizes.now self.new }
-        ensures passed { left K.Kind.meaning sizes.now self.old ≡ alike K.Kind.meaning sizes.now depth self.old.body ++ left K.Kind.meaning sizes.now self.new }
+        ensures long { length result ≡ 8 }
+        ensures place { result ≡ place (take (length sizes.now) result) }
+        ensures next { left K.Kind.meaning sizes.now self.old ≡ take (length sizes.now) result ∷ left K.Kind.meaning sizes.now self.new }
     {
-        self.more = advance::<K>(&sizes[0..depth], &mut self.body[0..depth]);
+        let body = self.body;
+        self.more = advance::<K>(sizes, &mut self.body[0..sizes.len()]);
+        body
     }
 
     // The next optimal rule, one code a byte, with 0 beyond the features.
-    pub(crate) fn next<K: Kind>(&mut self, sizes: &[u8], opposed: &[[u8; 8]]) -> Option<[u8; 8]>
+    pub(crate) fn next<K: Kind>(
+        &mut self,
+        sizes: &[u8],
+        seen: &[Seen],
+        sense: Sense,
+    ) -> Option<[u8; 8]>
         requires few { length sizes.now ≤ 8 }
-        requires sized { AllByRecursion Size sizes.now }
         requires walking { Walking K.Kind.meaning sizes.now self.old }
         ensures walking { Walking K.Kind.meaning sizes.now self.new }
-        ensures value { to_find K.Kind.meaning sizes.now opposed.now self.old ≡ option_to_list result ++ to_find K.Kind.meaning sizes.now opposed.now self.new }
-        ensures over { MatchOption result (to_find K.Kind.meaning sizes.now opposed.now self.new ≡ []) (λ b. length b ≡ 8) }
+        ensures value { to_find K.Kind.meaning sizes.now sense seen.now self.old ≡ option_to_list result ++ to_find K.Kind.meaning sizes.now sense seen.now self.new }
+        ensures over { MatchOption result (to_find K.Kind.meaning sizes.now sense seen.now self.new ≡ []) (λ b. length b ≡ 8) }
     {
         'bodies: while self.more {
-            let body = self.body;
-            let clear = consistent::<K>(sizes, opposed, &body[0..sizes.len()]);
-            self.step::<K>(sizes, reach(clear, &body[0..sizes.len()]));
-            if clear && is_tight::<K>(sizes, opposed, &body[0..sizes.len()]) {
+            let body = self.step::<K>(sizes);
+            let mut tried = body;
+            if consistent::<K>(sizes, seen, sense, &body[0..sizes.len()])
+                && is_tight::<K>(sizes, seen, sense, &mut tried[0..sizes.len()])
+            {
                 return Some(body);
             }
         }

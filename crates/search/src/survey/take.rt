@@ -27,8 +27,7 @@ impl Survey {
         ensures { IfOk result (λ s. s.seen.items ≡ []) }
     {
         let seen = Vec::with_capacity(heap, 65535)?;
-        let opposed = Vec::with_capacity(heap, 65535)?;
-        Ok(Survey { seen, opposed })
+        Ok(Survey { seen })
     }
 
     // The different states that the log shows, each with whether it was shown with the head; or the first stray cell.

@@ -1,19 +1,23 @@
-use Rattle.std.proofs.Common.{◌≡◌, ℕ, true, false, [], length, get_or, sym, ap, ◌∙◌, arith, rules}
+use Rattle.std.proofs.Common.{◌≡◌, ℕ, true, false, length, get_or, sym, ap, ◌∙◌, arith, rules}
 use Rattle.model.specs.Rules.{matches, each_below}
 use Rattle.model.specs.Below.{each_below_more, each_below_fails}
-use Rattle.search.proofs.Clears.{clear_more, clear_fails, clear_all}
+use Rattle.search.proofs.Clears.{no_seen, clear_more_beside, clear_more_misses, clear_fails, clear_all}
 use Rattle.search.proofs.consistent.consistent.Goals as goal
+
+pub rows-preserved-then-not-is_against : goal.rows-preserved-then-not-is_against
+rows-preserved-then-not-is_against g c =
+    (c.rows.invariant.0, clear_more_beside g.K.Kind.meaning c.args.sizes.now c.args.sense c.args.seen.now c.args.body.now c.rows.row-index no_seen c.rows.invariant.1 c.rows-test.true (sym c.if-not-is_against.ensures))
 
 pub rows-preserved : goal.rows-preserved
 rows-preserved g c =
     let m = g.K.Kind.meaning in
-    let state = get_or c.args.opposed.now c.rows.row-index [] in
+    let state = (get_or c.args.seen.now c.rows.row-index no_seen).state in
     let miss : matches m c.args.sizes.now c.args.body.now state ≡ false =
     each_below_fails (length c.args.sizes.now) c.features.i
     (λ i. m.holds (get_or c.args.sizes.now i 0) (get_or c.args.body.now i 0) (get_or state i 0))
     (search rules)
     (sym c.if-not-holds.ensures) in
-    (c.rows.invariant.0, clear_more m c.args.sizes.now c.args.opposed.now c.args.body.now c.rows.row-index [] c.rows.invariant.1 c.rows-test.true miss)
+    (c.rows.invariant.0, clear_more_misses m c.args.sizes.now c.args.sense c.args.seen.now c.args.body.now c.rows.row-index no_seen c.rows.invariant.1 c.rows-test.true miss)
 
 pub features-preserved : goal.features-preserved
 features-preserved g c = search (rules, each_below_more)
@@ -21,13 +25,13 @@ features-preserved g c = search (rules, each_below_more)
 pub returns-after-rows : goal.returns-after-rows
 returns-after-rows g c =
     c.rows.invariant.0
-    ∙ clear_all g.K.Kind.meaning c.args.sizes.now c.args.opposed.now c.args.body.now c.rows.row-index [] c.rows.invariant.1 c.rows-test.false
+    ∙ clear_all g.K.Kind.meaning c.args.sizes.now c.args.sense c.args.seen.now c.args.body.now c.rows.row-index no_seen c.rows.invariant.1 c.rows-test.false
 
 pub returns-after-features : goal.returns-after-features
 returns-after-features g c =
     let m = g.K.Kind.meaning in
-    let state = get_or c.args.opposed.now c.rows.row-index [] in
+    let state = (get_or c.args.seen.now c.rows.row-index no_seen).state in
     let done : c.features.i ≡ length c.args.sizes.now = omega arith in
     let hit : matches m c.args.sizes.now c.args.body.now state ≡ true =
     ap (λ (n : ℕ). each_below n (λ i. m.holds (get_or c.args.sizes.now i 0) (get_or c.args.body.now i 0) (get_or state i 0))) (sym done) ∙ c.features.invariant in
-    clear_fails m c.args.sizes.now c.args.opposed.now c.args.body.now c.rows.row-index [] c.rows.invariant.1 c.rows-test.true hit
+    clear_fails m c.args.sizes.now c.args.sense c.args.seen.now c.args.body.now c.rows.row-index no_seen c.rows.invariant.1 c.rows-test.true (sym c.if-not-is_against.ensures) hit

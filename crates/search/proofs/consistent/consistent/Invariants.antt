@@ -1,10 +1,10 @@
 use Rattle.std.proofs.Common.{◌≡◌, true, get_or, drop}
 use Rattle.model.specs.Rules.{each_below}
-use Rattle.search.specs.Opposing.{clear}
+use Rattle.search.specs.Surveys.{clear}
 use Rattle.search.proofs.consistent.consistent.Given as goal
 
 abbrev pub invariant-rows : goal.invariant-rows
-invariant-rows g l = (l.none ≡ true) × (clear g.K.Kind.meaning l.sizes (drop l.row-index l.opposed) l.body ≡ clear g.K.Kind.meaning l.sizes l.opposed l.body)
+invariant-rows g l = (l.none ≡ true) × (clear g.K.Kind.meaning l.sizes l.sense (drop l.row-index l.seen) l.body ≡ clear g.K.Kind.meaning l.sizes l.sense l.seen l.body)
 
 abbrev pub invariant-features : goal.invariant-features
-invariant-features g l = each_below l.i (λ i. g.K.Kind.meaning.holds (get_or l.sizes i 0) (get_or l.body i 0) (get_or l.row i 0)) ≡ true
+invariant-features g l = each_below l.i (λ i. g.K.Kind.meaning.holds (get_or l.sizes i 0) (get_or l.body i 0) (get_or l.row.state i 0)) ≡ true

@@ -1,28 +1,21 @@
-use Rattle.std.proofs.Common.{◌≡◌, ℕ, length, sym, ap, ◌∙◌, arith, rules}
-use Rattle.model.specs.Rules.{each_below}
+use Rattle.std.proofs.Common.{◌≡◌, ℕ, Bool, true, false, not, List, length, get_or, sym, ap, ◌∙◌, rules}
 use Rattle.model.specs.Below.{each_below_more, each_below_fails}
-use Rattle.search.specs.Misses.{firm_at}
-use Rattle.search.proofs.Firm.{firm_tight}
+use Rattle.search.specs.Surveys.{tight_at}
 use Rattle.search.proofs.optimal.is_tight.Goals as goal
 
 pub returns-then-loosens : goal.returns-then-loosens
 returns-then-loosens g c =
-    let m = g.K.Kind.meaning in
-    let ns = c.args.sizes.now in
-    let near = c.near_misses-near.result in
-    sym (each_below_fails (length ns) c.features.feature (firm_at m ns near c.args.body.now) (search rules) (sym c.if-loosens.ensures))
-    ∙ firm_tight m ns c.args.opposed.now g.met.K.Kind.lawful c.requires.sized c.args.body.now c.requires.long c.requires.few c.requires.clears near c.near_misses-near.ensures
+    let at : List ℕ → ℕ → Bool = λ b. tight_at g.K.Kind.meaning c.args.sizes.now c.args.sense c.args.seen.now b in
+    let not-tight : at c.features.body c.features.feature ≡ false = sym c.if-loosens.ensures.value in
+    record {
+      same = c.loosens.ensures.same ∙ c.features.invariant.0;
+      value = sym (each_below_fails (length c.args.sizes.now) c.features.feature (at c.args.body.now) (search rules) (ap (λ (b : List ℕ). at b c.features.feature) (sym c.features.invariant.0) ∙ not-tight));
+    }
 
 pub features-preserved : goal.features-preserved
 features-preserved g c =
-    each_below_more c.features.feature (firm_at g.K.Kind.meaning c.args.sizes.now c.near_misses-near.result c.args.body.now) c.features.invariant (sym c.if-loosens.ensures)
-
-pub returns : goal.returns
-returns g c =
-    let m = g.K.Kind.meaning in
-    let ns = c.args.sizes.now in
-    let near = c.near_misses-near.result in
-    let done : c.features.feature ≡ length ns = omega arith in
-    sym c.features.invariant
-    ∙ ap (λ (n : ℕ). each_below n (firm_at m ns near c.args.body.now)) done
-    ∙ firm_tight m ns c.args.opposed.now g.met.K.Kind.lawful c.requires.sized c.args.body.now c.requires.long c.requires.few c.requires.clears near c.near_misses-near.ensures
+    let at : List ℕ → ℕ → Bool = λ b. tight_at g.K.Kind.meaning c.args.sizes.now c.args.sense c.args.seen.now b in
+    let still : at c.features.body c.features.feature ≡ true = sym c.if-loosens.ensures.value in (
+      c.loosens.ensures.same ∙ c.features.invariant.0,
+      each_below_more c.features.feature (at c.args.body.now) c.features.invariant.1 (ap (λ (b : List ℕ). at b c.features.feature) (sym c.features.invariant.0) ∙ still),
+    )

@@ -1,8 +1,10 @@
 use Rattle.std.proofs.Common.{◌≡◌, true, not}
 use Rattle.model.specs.Rules.{each_below}
-use Rattle.search.specs.Misses.{frees}
+use Rattle.search.specs.Surveys.{loose}
 use Rattle.search.proofs.optimal.loosens.Given as goal
 
--- each weaker code so far lets a near miss in
+-- no code so far leaves the rule consistent
 abbrev pub invariant-codes : goal.invariant-codes
-invariant-codes g l = each_below l.other (λ c. not (frees g.K.Kind.meaning l.sizes l.near l.body l.feature c)) ≡ true
+invariant-codes g l =
+    (l.body ≡ l.initial.body)
+    × (each_below l.other (λ c. not (loose g.K.Kind.meaning l.sizes l.sense l.seen l.initial.body l.feature c)) ≡ true)

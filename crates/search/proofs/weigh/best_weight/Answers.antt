@@ -9,5 +9,5 @@ rules-init g c =
     let ns = c.args.sizes.now in (
       walking_start m ns c.requires.few c.requires.bare c.new-walk.result c.new-walk.ensures,
       omega arith,
-      ap (heaviest m ns c.args.sense c.args.seen.now c.args.state.now None) (to_find_start m ns c.requires.few c.requires.bare c.args.opposed.now c.new-walk.result c.new-walk.ensures),
+      ap (heaviest m ns c.args.sense c.args.seen.now c.args.state.now None) (to_find_start m ns c.requires.few c.requires.bare c.args.sense c.args.seen.now c.new-walk.result c.new-walk.ensures),
     )

@@ -8,7 +8,7 @@ invariant-rules g l =
     let m = g.K.Kind.meaning in
     Walking m l.sizes l.walk
     × (unwrap_or l.best 0 ≤ 65535)
-    × (heaviest m l.sizes l.sense l.seen l.state l.best (to_find m l.sizes l.opposed l.walk) ≡ heaviest m l.sizes l.sense l.seen l.state None (places m l.sizes l.opposed))
+    × (heaviest m l.sizes l.sense l.seen l.state l.best (to_find m l.sizes l.sense l.seen l.walk) ≡ heaviest m l.sizes l.sense l.seen l.state None (places m l.sizes l.sense l.seen))
 
 abbrev pub decreases-rules : goal.decreases-rules
-decreases-rules g l = length (to_find g.K.Kind.meaning l.sizes l.opposed l.walk)
+decreases-rules g l = length (to_find g.K.Kind.meaning l.sizes l.sense l.seen l.walk)

@@ -1,8 +1,8 @@
-use Rattle.std.proofs.Common.{count_by, sym, ap, ◌∙◌, arith}
+use Rattle.std.proofs.Common.{◌≡◌, count_by, sym, ap, ◌∙◌, arith, rules}
 use Rattle.std.proofs.lemmas.List.{take_all}
 use Rattle.std.proofs.lemmas.List.Sums.{count_by_more_yes, count_by_more_no}
 use Rattle.search.specs.Weights.{counts}
-use Rattle.search.proofs.Marks.{no_seen}
+use Rattle.search.proofs.Clears.{no_seen}
 use Rattle.search.proofs.weigh.weigh.Goals as goal
 use Rattle.search.proofs.weigh.weigh.Goals.{then-is_counted, else-is_counted}
 

@@ -6,7 +6,7 @@ use Rattle.search.proofs.walk.Walk.next.Given as goal
 abbrev pub invariant-bodies : goal.invariant-bodies
 invariant-bodies g l =
     let m = g.K.Kind.meaning in
-    Walking m l.sizes l.self × (to_find m l.sizes l.opposed l.initial.self ≡ to_find m l.sizes l.opposed l.self)
+    Walking m l.sizes l.self × (to_find m l.sizes l.sense l.seen l.initial.self ≡ to_find m l.sizes l.sense l.seen l.self)
 
 abbrev pub decreases-bodies : goal.decreases-bodies
 decreases-bodies g l = length (left g.K.Kind.meaning l.sizes l.self)

@@ -1,0 +1,48 @@
+use Rattle.std.proofs.Common.{◌≡◌, ℕ, ◌+◌, ◌*◌, ◌≤◌, drop, refl, ap, ◌∙◌, subst, mul-le-mul, arith, rules}
+use Rattle.std.specs.List.{AllByRecursion}
+use Rattle.std.proofs.lemmas.List.{take_all}
+use Rattle.std.proofs.ByRecursion.{All-get_or, All-more}
+use Rattle.model.specs.Limits.{body_count}
+use Rattle.pruned.proofs.Counts.{count_more, count_all, too_many}
+use Rattle.pruned.proofs.limits.within_limits.Goals as goal
+
+pub returns-then-size-widest : goal.returns-then-size-widest
+returns-then-size-widest g c = (
+  refl,
+  λ listable. let narrow = All-get_or (λ n. n ≤ g.K.Kind.meaning.largest) c.args.sizes.now c.sizes.size-index 0 c.sizes-test.true listable.0 in omega arith,
+)
+
+pub overflow_mul-bodies : goal.overflow_mul-bodies
+overflow_mul-bodies g c =
+    let byte : c.from-bodies.result ≤ 255 = search rules in
+    let small : c.sizes.bodies * c.from-bodies.result ≤ 1000000 * 255 = mul-le-mul c.sizes.invariant.0 byte in
+    search rules
+
+pub returns-then-bodies-gt-MOST_BODIES : goal.returns-then-bodies-gt-MOST_BODIES
+returns-then-bodies-gt-MOST_BODIES g c =
+    let m = g.K.Kind.meaning in
+    let ns = c.args.sizes.now in
+    let i = c.sizes.size-index in
+    let here = c.from-bodies.ensures ∙ c.conditions.ensures in
+    let so_far : c.sizes.bodies * c.from-bodies.result * body_count m (drop (i + 1) ns) ≡ body_count m ns =
+    ap (λ (k : ℕ). c.sizes.bodies * k * body_count m (drop (i + 1) ns)) here ∙ count_more m ns c.sizes.bodies i c.sizes-test.true c.sizes.invariant.2 in
+    (refl, too_many m g.met.K.Kind.lawful ns (c.sizes.bodies * c.from-bodies.result) (i + 1) c.requires c.if-bodies-gt-MOST_BODIES.true so_far)
+
+pub sizes-preserved : goal.sizes-preserved
+sizes-preserved g c =
+    let m = g.K.Kind.meaning in
+    let ns = c.args.sizes.now in
+    let i = c.sizes.size-index in
+    let here = c.from-bodies.ensures ∙ c.conditions.ensures in (
+      c.if-bodies-gt-MOST_BODIES.false,
+      All-more (λ n. n ≤ m.largest) ns i 0 c.sizes-test.true c.sizes.invariant.1 (omega arith),
+      ap (λ (k : ℕ). c.sizes.bodies * k * body_count m (drop (i + 1) ns)) here ∙ count_more m ns c.sizes.bodies i c.sizes-test.true c.sizes.invariant.2,
+    )
+
+pub returns : goal.returns
+returns g c =
+    let m = g.K.Kind.meaning in
+    let ns = c.args.sizes.now in (
+      subst (AllByRecursion (λ n. n ≤ m.largest)) (take_all c.sizes.size-index ns c.sizes-test.false) c.sizes.invariant.1,
+      subst (λ (k : ℕ). k ≤ 1000000) (count_all m ns c.sizes.bodies c.sizes.size-index c.sizes-test.false c.sizes.invariant.2) c.sizes.invariant.0,
+    )

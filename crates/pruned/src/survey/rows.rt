@@ -1,0 +1,48 @@
+// Reading one row of a log.
+ghost use Rattle.std.specs.Prelude.{◌≡◌, ℕ, ◌<◌, length, take, MatchResult, slice_index_or};
+ghost use Rattle.model.specs.Memory.{place};
+ghost use Rattle.model.specs.Rows.{no_row};
+ghost use Rattle.model.specs.Shapes.{features};
+ghost use Rattle.model.specs.Strays.{Astray};
+ghost use Rattle.pruned.specs.Scans.{StrayIn};
+
+use model::{Log, Shape, Stray};
+
+// The cells of a row, read once.
+pub(crate) fn cells_of<L: Log>(log: &L, row: usize) -> [u8; 12]
+    requires { row < length (L.Log.rows log.now) }
+    ensures { result ≡ (slice_index_or (L.Log.rows log.now) row no_row).cells }
+{
+    let mut cells = [0u8; 12];
+    'cells: for cell in 0..12 {
+        cells[cell] = log.cell(row, cell);
+    }
+    cells
+}
+
+// The first cell of the shape that is not below its size is a fault.
+pub(crate) fn scan(shape: &Shape, row: usize, cells: &[u8; 12]) -> Result<(), Stray>
+    requires { row < 65535 }
+    ensures { MatchResult result (λ _. (j : ℕ) → j < 12 → Astray shape.now cells.now j → ⊥) (λ e. StrayIn shape.now row cells.now e) }
+{
+    'cells: for cell in 0..12usize {
+        let size = shape.cell_size(cell);
+        if size > 0 && cells[cell] >= size {
+            return Err(Stray {
+                row: row as u16,
+                cell: cell as u8,
+            });
+        }
+    }
+    Ok(())
+}
+
+// The feature cells of a row as a state, with 0 beyond the shape.
+pub(crate) fn state_of(shape: &Shape, cells: &[u8; 12]) -> [u8; 8]
+    ensures { result ≡ place (take (length (features shape.now)) cells.now) }
+{
+    let mut state = [0u8; 8];
+    let count = shape.feature_count();
+    state[0..count].copy_from_slice(&cells[0..count]);
+    state
+}
