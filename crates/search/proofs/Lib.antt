@@ -1,9 +1,12 @@
 pub mod Clears
 pub mod Counts
+pub mod Founds
 pub mod Listings
 pub mod Marks
 pub mod Padding
 pub mod Scans
+pub mod Shows
 pub mod Steps
+pub mod Ties
 pub mod Walks
 pub mod Writes

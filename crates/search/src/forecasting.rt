@@ -1,6 +1,7 @@
 // Forecasting an outcome for a state.
 ghost use Rattle.std.specs.Prelude.{◌≡◌, ◌≤◌};
 ghost use Rattle.model.specs.Forecasts.{percentage, Forecasted};
+ghost use Rattle.model.specs.Foretold.{Foretold};
 ghost use Rattle.model.specs.declared.sense.Sense.TheVariants.{Can, Cannot};
 ghost use Rattle.search.specs.Found.{best_matching};
 
@@ -30,7 +31,8 @@ pub fn forecast<K: Kind, L: Log>(
     head: Head,
     state: &[u16],
 ) -> Result<(u32, u32, u32), Refusal>
-    ensures { Forecasted K.Kind.meaning shape.now (L.Log.rows log.now) head state.now (best_matching K.Kind.meaning shape.now (L.Log.rows log.now) head Can state.now) (best_matching K.Kind.meaning shape.now (L.Log.rows log.now) head Cannot state.now) result }
+    ensures answer { Forecasted K.Kind.meaning shape.now (L.Log.rows log.now) head state.now (best_matching K.Kind.meaning shape.now (L.Log.rows log.now) head Can state.now) (best_matching K.Kind.meaning shape.now (L.Log.rows log.now) head Cannot state.now) result }
+    ensures told { Foretold K.Kind.meaning shape.now (L.Log.rows log.now) head state.now result }
 {
     let (target, value) = known_head(shape, head)?;
     let sizes = shape.feature_sizes();

@@ -1,5 +1,6 @@
 // Listing every optimal rule of a head and a sense.
 ghost use Rattle.model.specs.Listed.{Listed};
+ghost use Rattle.model.specs.Wholes.{ListedWhole, Whole};
 ghost use Rattle.search.specs.Found.{found};
 
 use super::heads::known_head;
@@ -17,7 +18,9 @@ pub fn list<K: Kind, L: Log>(
     sense: Sense,
     rules: &mut [u8],
 ) -> Result<u32, Refusal>
-    ensures { Listed K.Kind.meaning shape.now (L.Log.rows log.now) head (found K.Kind.meaning shape.now (L.Log.rows log.now) head sense) rules.old rules.new result }
+    ensures answer { Listed K.Kind.meaning shape.now (L.Log.rows log.now) head (found K.Kind.meaning shape.now (L.Log.rows log.now) head sense) rules.old rules.new result }
+    ensures listing { ListedWhole K.Kind.meaning shape.now (L.Log.rows log.now) head sense rules.old rules.new result }
+    ensures whole { Whole K.Kind.meaning shape.now (L.Log.rows log.now) head sense rules.new result }
 {
     let (target, value) = known_head(shape, head)?;
     let sizes = shape.feature_sizes();
