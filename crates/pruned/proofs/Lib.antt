@@ -4,7 +4,6 @@ pub mod Depths
 pub mod Dominated
 pub mod Finds
 pub mod Firm
-pub mod Founds
 pub mod Listings
 pub mod Marks
 pub mod Misses

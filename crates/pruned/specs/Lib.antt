@@ -1,4 +1,3 @@
-pub mod Found
 pub mod Misses
 pub mod Opposing
 pub mod Rest

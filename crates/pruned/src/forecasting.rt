@@ -5,9 +5,7 @@ ghost use Rattle.std.specs.List.{AllByRecursion};
 ghost use Rattle.model.specs.Bodies.{Body};
 ghost use Rattle.model.specs.Foretold.{Foretold};
 ghost use Rattle.model.specs.Sizes.{Size};
-ghost use Rattle.model.specs.Forecasts.{percentage, Forecasted};
-ghost use Rattle.model.specs.declared.sense.Sense.TheVariants.{Can, Cannot};
-ghost use Rattle.pruned.specs.Found.{best_matching};
+ghost use Rattle.model.specs.Forecasts.{percentage};
 ghost use Rattle.pruned.specs.Opposing.{states_against};
 ghost use Rattle.pruned.specs.Walks.{places};
 ghost use Rattle.pruned.specs.Weights.{heaviest};
@@ -51,8 +49,7 @@ pub fn forecast<K: Kind, L: Log>(
     head: Head,
     state: &[u16],
 ) -> Result<(u32, u32, u32), Refusal>
-    ensures answer { Forecasted K.Kind.meaning shape.now (L.Log.rows log.now) head state.now (best_matching K.Kind.meaning shape.now (L.Log.rows log.now) head Can state.now) (best_matching K.Kind.meaning shape.now (L.Log.rows log.now) head Cannot state.now) result }
-    ensures told { Foretold K.Kind.meaning shape.now (L.Log.rows log.now) head state.now result }
+    ensures { Foretold K.Kind.meaning shape.now (L.Log.rows log.now) head state.now result }
 {
     let (target, value) = known_head(shape, head)?;
     let sizes = shape.feature_sizes();

@@ -1,4 +1,5 @@
-// Listing and forecasting, over any log and any condition kind.
+// Listing and forecasting like the crate search, over any log and any condition kind, by a search that prunes: it passes over
+// what a consistent rule dominates, and looks at the near misses of a rule alone.
 #![tactic(auto)]
 
 mod bodies;

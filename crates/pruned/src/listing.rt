@@ -1,7 +1,5 @@
 // Listing every optimal rule of a head and a sense.
-ghost use Rattle.model.specs.Listed.{Listed};
 ghost use Rattle.model.specs.Wholes.{ListedWhole, Whole};
-ghost use Rattle.pruned.specs.Found.{found};
 
 use super::heads::known_head;
 use super::limits::within_limits;
@@ -18,8 +16,7 @@ pub fn list<K: Kind, L: Log>(
     sense: Sense,
     rules: &mut [u8],
 ) -> Result<u32, Refusal>
-    ensures answer { Listed K.Kind.meaning shape.now (L.Log.rows log.now) head (found K.Kind.meaning shape.now (L.Log.rows log.now) head sense) rules.old rules.new result }
-    ensures listing { ListedWhole K.Kind.meaning shape.now (L.Log.rows log.now) head sense rules.old rules.new result }
+    ensures answer { ListedWhole K.Kind.meaning shape.now (L.Log.rows log.now) head sense rules.old rules.new result }
     ensures whole { Whole K.Kind.meaning shape.now (L.Log.rows log.now) head sense rules.new result }
 {
     let (target, value) = known_head(shape, head)?;

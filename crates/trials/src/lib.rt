@@ -7,6 +7,8 @@ mod images;
 mod limits;
 #[cfg(test)]
 mod listings;
+#[cfg(test)]
+mod pruning;
 mod samples;
 #[cfg(test)]
 mod sessions;

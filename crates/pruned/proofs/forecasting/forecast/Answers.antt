@@ -12,7 +12,6 @@ use Rattle.pruned.specs.Weights.{heaviest}
 use Rattle.pruned.specs.declared.survey.Seen.{Seen}
 use Rattle.model.specs.Limits.{Listable}
 use Rattle.model.specs.Foretold.{Foretold}
-use Rattle.pruned.proofs.Founds.{forecasted_found}
 use Rattle.pruned.proofs.Listings.{Asked, listable_bare, best_places}
 use Rattle.pruned.proofs.forecasting.forecast.Goals as goal
 
@@ -73,4 +72,4 @@ returns g c =
           ∙ ap (λ (p : ℕ). (p, c.best_of-contra.result, percentage p c.best_of-contra.result)) pro
           ∙ ap (λ (q : ℕ). (unwrap_or (weighed Can) 0, q, percentage (unwrap_or (weighed Can) 0) q)) contra,
     ) in
-    record { answer = forecasted_found m g.met.K.Kind.lawful s rows h (g.met.L.Log.twelve c.args.log.now) state (Ok answer) told; told = told }
+    told

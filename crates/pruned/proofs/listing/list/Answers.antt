@@ -3,7 +3,6 @@ use Rattle.model.specs.Limits.{Listable}
 use Rattle.model.specs.Wholes.{ListedWhole, rules_of}
 use Rattle.model.specs.declared.refusal.Refusal.TheVariants.{Rules}
 use Rattle.model.proofs.Written.{whole_listed}
-use Rattle.pruned.proofs.Founds.{listed_found}
 use Rattle.pruned.proofs.Listings.{Asked, listable_bare, listable_bound, length_places, filled_places}
 use Rattle.pruned.proofs.listing.list.Goals as goal
 
@@ -51,8 +50,7 @@ returns-then-many-rules g c =
       ),
     ) in
     record {
-      answer = listed_found m g.met.K.Kind.lawful s rows c.args.head (g.met.L.Log.twelve c.args.log.now) c.args.sense c.args.rules.now c.args.rules.now (Err (Rules c.count-many.result)) refused;
-      listing = refused;
+      answer = refused;
       whole = tt;
     }
 
@@ -101,7 +99,6 @@ returns g c =
       memory,
     ) in
     record {
-      answer = listed_found m laws s rows h (g.met.L.Log.twelve c.args.log.now) sense c.args.rules.now _ (Ok c.count-many.result) listed;
-      listing = listed;
+      answer = listed;
       whole = whole_listed m s rows h sense c.args.rules.now _ (Ok c.count-many.result) listed;
     }
