@@ -1,4 +1,4 @@
-// The call that a linked library exports.
+// The call that the static library calls_c exports.
 ghost use Rattle.std.specs.Prelude.{if◌then◌else◌};
 ghost use Rattle.model.specs.Band.{band as band_kind};
 ghost use Rattle.model.specs.Exact.{exact as exact_kind};
@@ -10,11 +10,8 @@ use super::listing::list_image;
 use model::{Band, Exact, Head, Sense};
 use std::alloc::Global;
 
-// Lists the optimal rules of a head and a sense over an image, by band or by exact conditions. In C:
-//   struct answer rulebook_list(bool band, const uint8_t *image, size_t image_length, uint16_t target, uint16_t value,
-//                               bool cannot, uint8_t *rules, size_t rules_length);
-#[unsafe(no_mangle)]
-pub extern "C" fn rulebook_list(
+// Lists the optimal rules of a head and a sense over an image, by band or by exact conditions.
+pub fn rulebook_list(
     heap: Global,
     band: bool,
     image: &[u8],

@@ -1,4 +1,4 @@
-// Calls for a program in C or Rust that links this library: one call lists over the bytes of an image.
+// Calls for a program in C or Rust, which links them by the crate calls_c: one call lists over the bytes of an image.
 #![tactic(auto)]
 
 mod answer;

@@ -2,13 +2,12 @@
 ghost use Rattle.calls.specs.Called.{Called};
 
 use super::trouble::Trouble;
-use book::Book;
 use logs::{PackedLog, check};
 use model::{Head, Kind, Sense};
-use search::Survey;
+use pruned::{Survey, list};
 use std::alloc::Global;
 
-// Checks the image, copies it into a book, and fills rule memory with the optimal rules of a head and a sense.
+// Checks the image, copies it into a log, and fills rule memory with the optimal rules of a head and a sense.
 pub(crate) fn list_image<K: Kind + Drop>(
     heap: Global,
     image: &[u8],
@@ -20,6 +19,6 @@ pub(crate) fn list_image<K: Kind + Drop>(
 {
     let shape = check(image)?;
     let log = PackedLog::new(Vec::from_slice(heap, image)?);
-    let mut book: Book<K, PackedLog> = Book::new(shape, log, Survey::new(heap)?);
-    Ok(book.list(head, sense, rules)?)
+    let mut survey = Survey::new(heap)?;
+    Ok(list::<K, PackedLog>(&shape, &log, &mut survey, head, sense, rules)?)
 }
