@@ -1,5 +1,5 @@
 // Random cases of a condition kind, each asked both ways.
-use super::asking::{count_optimal, forecasts, lists, record};
+use super::asking::{Searches, count_optimal, forecasts, lists, record};
 use super::bodies::{Body, State, count, fill};
 use super::cases::{MOST_ROWS, random_log, random_shape, random_state};
 use super::conditions::Conditions;
@@ -7,13 +7,11 @@ use super::definition::{best_weight, mark, percentage};
 use super::observations::Observation;
 use super::random::Random;
 use super::scores::{Score, Scores};
-use book::Book;
-use logs::PackedLog;
 use model::{Head, Kind, Log, Refusal, Sense};
 
 // One listing; the answer is the best weight at a state.
 fn compare_listing<K: Kind + Drop>(
-    book: &mut Book<K, PackedLog>,
+    searches: &mut Searches<K>,
     bodies: &mut [Body],
     memory: &mut [u8],
     log: &[Observation],
@@ -23,14 +21,14 @@ fn compare_listing<K: Kind + Drop>(
     score: &mut Score,
 ) -> Result<u32, Refusal> {
     mark(bodies, log, head, sense);
-    let same = lists(book, head, sense, bodies, memory)?;
+    let same = lists(searches, head, sense, bodies, memory)?;
     score.count(same, count_optimal(bodies));
     Ok(best_weight(bodies, log, head, sense, state))
 }
 
 // Both listings of a head, and its forecast at a state.
 fn compare_head<K: Kind + Drop>(
-    book: &mut Book<K, PackedLog>,
+    searches: &mut Searches<K>,
     bodies: &mut [Body],
     memory: &mut [u8],
     log: &[Observation],
@@ -43,9 +41,9 @@ fn compare_head<K: Kind + Drop>(
         cannot,
         forecast,
     } = scores;
-    let pro = compare_listing(book, bodies, memory, log, head, Sense::Can, state, can)?;
+    let pro = compare_listing(searches, bodies, memory, log, head, Sense::Can, state, can)?;
     let contra = compare_listing(
-        book,
+        searches,
         bodies,
         memory,
         log,
@@ -55,21 +53,21 @@ fn compare_head<K: Kind + Drop>(
         cannot,
     )?;
     let percent = percentage(pro, contra);
-    let same = forecasts(book, head, state, (pro, contra, percent))?;
+    let same = forecasts(searches, head, state, (pro, contra, percent))?;
     forecast.count(same, percent);
     Ok(())
 }
 
 // Every head of the book's shape: eight numbers for each of the four targets that there may be.
 fn compare_heads<K: Kind + Drop>(
-    book: &mut Book<K, PackedLog>,
+    searches: &mut Searches<K>,
     bodies: &mut [Body],
     memory: &mut [u8],
     log: &[Observation],
     random: &mut Random,
     scores: &mut Scores,
 ) -> Result<(), Refusal> {
-    let shape = book.shape;
+    let shape = searches.book.shape;
     for number in 0..32u16 {
         let head = Head {
             target: number / 8,
@@ -77,7 +75,7 @@ fn compare_heads<K: Kind + Drop>(
         };
         if head.value < u16::from(shape.target_size(usize::from(head.target))) {
             let state = random_state(&shape, random);
-            compare_head(book, bodies, memory, log, head, &state, scores)?;
+            compare_head(searches, bodies, memory, log, head, &state, scores)?;
         }
     }
     Ok(())
@@ -85,7 +83,7 @@ fn compare_heads<K: Kind + Drop>(
 
 // A random shape, with the first rows of a random log.
 fn compare_case<K: Kind + Drop>(
-    book: &mut Book<K, PackedLog>,
+    searches: &mut Searches<K>,
     room: &mut [Body],
     memory: &mut [u8],
     conditions: Conditions,
@@ -101,14 +99,14 @@ fn compare_case<K: Kind + Drop>(
         return Err(Refusal::Bodies);
     }
     fill(conditions, &shape, &mut room[0..bodies]);
-    book.shape = shape;
-    record(&mut book.log, &shape, log)?;
-    compare_heads(book, &mut room[0..bodies], memory, log, random, scores)
+    searches.book.shape = shape;
+    record(&mut searches.book.log, &shape, log)?;
+    compare_heads(searches, &mut room[0..bodies], memory, log, random, scores)
 }
 
 // So many random cases.
 pub(crate) fn compare<K: Kind + Drop>(
-    book: &mut Book<K, PackedLog>,
+    searches: &mut Searches<K>,
     bodies: &mut [Body],
     memory: &mut [u8],
     conditions: Conditions,
@@ -117,7 +115,7 @@ pub(crate) fn compare<K: Kind + Drop>(
 ) -> Result<Scores, Refusal> {
     let mut scores = Scores::zero();
     for _ in 0..cases {
-        compare_case(book, bodies, memory, conditions, random, &mut scores)?;
+        compare_case(searches, bodies, memory, conditions, random, &mut scores)?;
     }
     Ok(scores)
 }

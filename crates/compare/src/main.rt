@@ -1,4 +1,5 @@
-// Compares the book's listings and forecasts with those that trying every body gives, on random logs.
+// Compares the listings and forecasts of a book, and of the search that prunes, with those that trying every body gives,
+// on random logs.
 #![tactic(auto)]
 
 mod asking;
@@ -13,6 +14,7 @@ mod scores;
 mod trouble;
 
 use anyhow::anyhow;
+use asking::Searches;
 use bodies::UNCONDITIONAL;
 use book::Book;
 use cases::MOST_BODIES;
@@ -51,18 +53,22 @@ fn print_scores(rt: &HostRuntime, exact: Scores, band: Scores) -> io::Result<()>
     print_score(rt, "band forecasts", band.forecast, "percent added up")
 }
 
-// A book, room for the bodies and rule memory, used for all cases of a kind.
+// Both searches, room for the bodies and rule memory, used for all cases of a kind.
 fn scores_of<K: Kind + Drop>(
     heap: Global,
     conditions: Conditions,
     random: &mut Random,
 ) -> Result<Scores, Trouble> {
     let packed = PackedLog::new(vec![in heap; 0; 1024]?);
-    let mut book: Book<K, PackedLog> = Book::new(Shape::smallest(), packed, Survey::new(heap)?);
+    let book: Book<K, PackedLog> = Book::new(Shape::smallest(), packed, Survey::new(heap)?);
+    let mut searches = Searches {
+        book,
+        survey: pruned::Survey::new(heap)?,
+    };
     let mut bodies = vec![in heap; UNCONDITIONAL; MOST_BODIES]?;
     let mut memory = vec![in heap; 0; 8 * MOST_BODIES]?;
     let scores = compare(
-        &mut book,
+        &mut searches,
         &mut bodies,
         &mut memory,
         conditions,
