@@ -1,9 +1,7 @@
 -- A survey: the different states shown, each with whether it came with the head. Assumes nothing.
-use Rattle.std.specs.Prelude.{◌≡◌, ℕ, ◌+◌, ◌<◌, Bool, true, cond, not, ◌&&◌, ◌||◌, List, [], ◌∷◌, length, take, fold, ◌==◌, ◌≢◌, slice_index, slice_index_or, slice_set}
+use Rattle.std.specs.Prelude.{◌≡◌, ℕ, ◌+◌, ◌<◌, Bool, cond, not, ◌||◌, List, [], ◌∷◌, length, take, fold, ◌==◌, ◌≢◌, slice_index, slice_index_or}
 use Rattle.std.specs.Str.{bytes_eq}
-use Rattle.model.specs.Kinds.{Meaning}
 use Rattle.model.specs.Memory.{place}
-use Rattle.model.specs.Rules.{matches, each_below}
 use Rattle.model.specs.Shapes.{features}
 use Rattle.model.specs.declared.row.Row.{Row}
 use Rattle.model.specs.declared.sense.Sense.{Sense}

@@ -1,8 +1,8 @@
 -- How many bodies there are, and that the limits leave at least one. Assumes nothing.
-use Rattle.std.proofs.Common.{◌≡◌, ℕ, zero, suc, ◌+◌, ◌*◌, ◌<◌, ◌≤◌, List, [], ◌∷◌, ◌++◌, map, length, get_or, take, drop, replicate, sym, refl, ap, ◌∙◌, mul_assoc, suc-mul, add_comm, mul-pos, zero-mul, mul-one, le-mul_of_pos_right, arith}
+use Rattle.std.proofs.Common.{◌≡◌, ℕ, zero, suc, ◌+◌, ◌*◌, ◌<◌, ◌≤◌, List, [], ◌∷◌, map, length, get_or, drop, replicate, sym, refl, ap, ◌∙◌, mul_assoc, suc-mul, add_comm, mul-pos, zero-mul, mul-one, le-mul_of_pos_right, arith}
 use Rattle.std.specs.List.{range_with_len, flat_map, AllByRecursion}
 use Rattle.std.proofs.lemmas.List.{at_drop_more, at_drop_all, length-append, length-map}
-use Rattle.std.proofs.ByRecursion.{All-get_or, All-drop}
+use Rattle.std.proofs.ByRecursion.{All-drop}
 use Rattle.model.specs.Kinds.{Meaning, Laws}
 use Rattle.model.specs.Sizes.{Size}
 use Rattle.model.specs.Limits.{body_count, Listable}

@@ -1,6 +1,6 @@
 -- From the places that the search fills to the listing of a shape's rows. Assumes nothing.
 use Rattle.std.proofs.Common.{◌≡◌, ℕ, ◌*◌, ◌≤◌, List, [], ◌∷◌, ◌++◌, map, length, take, drop, replicate, None, filter, sym, refl, ap, ◌∙◌, subst}
-use Rattle.std.specs.List.{flat_map, AllByRecursion}
+use Rattle.std.specs.List.{flat_map}
 use Rattle.std.proofs.lemmas.List.{length-map}
 use Rattle.model.specs.Bodies.{Body, bodies}
 use Rattle.model.specs.Kinds.{Meaning, Laws}

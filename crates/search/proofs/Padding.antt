@@ -1,5 +1,5 @@
 -- Bytes beyond the features do not matter. Assumes nothing.
-use Rattle.std.proofs.Common.{◌≡◌, ℕ, ◌<◌, max, Bool, cond, not, ◌&&◌, List, [], ◌∷◌, map, length, get_or, take, replicate, Some, count_by, Option, unwrap_or, sym, refl, ap, ◌∙◌, arith}
+use Rattle.std.proofs.Common.{◌≡◌, ℕ, max, Bool, cond, not, ◌&&◌, List, [], ◌∷◌, map, length, get_or, take, replicate, Some, count_by, Option, unwrap_or, sym, refl, ap, ◌∙◌, arith}
 use mathlib.Core.Path.{fun_ext}
 use Rattle.std.specs.List.{AllByRecursion}
 use Rattle.std.proofs.lemmas.List.{get_or_append_left, get_or-take}

@@ -1,5 +1,5 @@
 -- A walk over the bodies: what it has still to look at, and which rules it has still to find. Assumes nothing.
-use Rattle.std.specs.Prelude.{◌≡◌, ℕ, ◌-◌, Bool, true, cond, List, [], map, length, take, drop, replicate, filter}
+use Rattle.std.specs.Prelude.{◌≡◌, ℕ, ◌-◌, true, cond, List, [], map, length, take, drop, replicate, filter}
 use Rattle.model.specs.Kinds.{Meaning}
 use Rattle.model.specs.Bodies.{Body, bodies}
 use Rattle.model.specs.Memory.{place}

@@ -1,4 +1,4 @@
-use Rattle.std.proofs.Common.{◌<◌, length, rules}
+use Rattle.std.proofs.Common.{rules}
 use Rattle.std.proofs.lemmas.Bool.{eqb-true, eqb-false}
 use Rattle.model.proofs.Bodies.{length_body}
 use Rattle.search.proofs.Steps.{body_later, advanced_none, advanced_later, advanced_first, advanced_over}

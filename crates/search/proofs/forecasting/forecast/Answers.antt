@@ -1,4 +1,4 @@
-use Rattle.std.proofs.Common.{◌≡◌, ℕ, ◌-◌, List, length, Ok, take, replicate, None, Option, unwrap_or, sym, refl, ap, ◌∙◌, subst, rules}
+use Rattle.std.proofs.Common.{◌≡◌, ℕ, ◌-◌, length, Ok, take, replicate, None, Option, unwrap_or, sym, ap, ◌∙◌, subst, rules}
 use Rattle.std.proofs.lemmas.List.{take_at}
 use Rattle.model.specs.Forecasts.{percentage, Forecasted}
 use Rattle.model.specs.declared.sense.Sense.{Sense}

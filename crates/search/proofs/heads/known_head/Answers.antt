@@ -1,4 +1,4 @@
-use Rattle.std.proofs.Common.{ℕ, get_or, refl, ap, ◌∙◌, arith, rules}
+use Rattle.std.proofs.Common.{ℕ, get_or, refl, ap, ◌∙◌, arith}
 use Rattle.std.proofs.lemmas.List.{get_or_past}
 use Rattle.model.specs.Shapes.{targets}
 use Rattle.search.proofs.heads.known_head.Goals as goal

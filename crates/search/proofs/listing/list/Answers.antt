@@ -1,4 +1,4 @@
-use Rattle.std.proofs.Common.{◌≡◌, ℕ, ◌*◌, ◌<◌, ◌≤◌, List, length, Ok, Err, sym, refl, ap, ◌∙◌, subst, arith, rules}
+use Rattle.std.proofs.Common.{Ok, Err, refl, ◌∙◌, subst, arith, rules}
 use Rattle.model.specs.Limits.{Listable}
 use Rattle.model.specs.Listed.{Listed}
 use Rattle.model.specs.Wholes.{ListedWhole}

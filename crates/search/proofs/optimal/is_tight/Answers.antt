@@ -1,4 +1,4 @@
-use Rattle.std.proofs.Common.{◌≡◌, ℕ, Bool, true, false, not, List, length, get_or, sym, ap, ◌∙◌, rules}
+use Rattle.std.proofs.Common.{◌≡◌, ℕ, Bool, true, false, List, length, sym, ap, ◌∙◌, rules}
 use Rattle.model.specs.Below.{each_below_more, each_below_fails}
 use Rattle.search.specs.Surveys.{tight_at}
 use Rattle.search.proofs.optimal.is_tight.Goals as goal

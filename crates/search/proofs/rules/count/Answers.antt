@@ -1,4 +1,4 @@
-use Rattle.std.proofs.Common.{◌≡◌, length, ap, ◌∙◌, zero-add, rules}
+use Rattle.std.proofs.Common.{length, ap, ◌∙◌, zero-add, rules}
 use Rattle.search.proofs.Walks.{walking_start, to_find_start, length_places_le}
 use Rattle.search.proofs.rules.count.Goals as goal
 

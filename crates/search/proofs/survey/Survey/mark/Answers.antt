@@ -1,4 +1,4 @@
-use Rattle.std.proofs.Common.{◌≡◌, ℕ, Bool, List, length, vec_items, sym, ap, ◌∙◌, subst, rules}
+use Rattle.std.proofs.Common.{List, length, vec_items, sym, ap, ◌∙◌, subst, rules}
 use Rattle.search.specs.Surveys.{Unseen, SeenAt, marked}
 use Rattle.search.specs.declared.survey.Seen.{Seen}
 use Rattle.search.proofs.Clears.{no_seen}

@@ -1,4 +1,4 @@
-use Rattle.std.proofs.Common.{◌≡◌, ◌<◌, length, get_or, sym, refl, arith, rules, below_more}
+use Rattle.std.proofs.Common.{◌≡◌, length, refl, arith, rules, below_more}
 use Rattle.std.proofs.lemmas.List.{get_or_default}
 use Rattle.search.proofs.survey.rows.scan.Goals as goal
 use Rattle.search.proofs.survey.rows.scan.Goals.{else-size-gt0-via-then-size-gt0+else-cells-cell, else-size-gt0-via-else-size-gt0}

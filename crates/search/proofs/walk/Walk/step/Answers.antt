@@ -1,4 +1,4 @@
-use Rattle.std.proofs.Common.{◌-◌, length, arith, rules}
+use Rattle.std.proofs.Common.{◌-◌, length, arith}
 use Rattle.search.proofs.Walks.{place_walking, walking_step, left_step}
 use Rattle.search.proofs.walk.Walk.step.Goals as goal
 
