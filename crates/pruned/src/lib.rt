@@ -1,5 +1,5 @@
-// Listing and forecasting like the crate search, over any log and any condition kind, by a search that prunes: it passes over
-// what a consistent rule dominates, and looks at the near misses of a rule alone.
+// Listing and forecasting over any log and any condition kind, as the crate search promises them, by a search that prunes:
+// it passes over what a consistent rule dominates, and tells an optimal rule by its near misses.
 #![tactic(auto)]
 
 mod bodies;
