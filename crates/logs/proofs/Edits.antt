@@ -1,7 +1,6 @@
 -- Putting sixteen bytes in a place, and counting rows: what stays and what is then read. Assumes nothing.
 use Rattle.std.proofs.Common.{◌≡◌, ℕ, ◌+◌, ◌-◌, ◌*◌, ◌/◌, ◌%◌, ◌<◌, ◌≤◌, List, ◌++◌, length, get_or, take, drop, set, ap, ◌∙◌, subst, arith}
-use borrow.Rule.Slice.PartMut.{put_mid}
-use Rattle.std.proofs.lemmas.List.{length-append, length-set, length-drop, length-take-le, take_at, drop_at, take-append-le, drop-append-le, drop-take, drop-drop, take-take, drop-set-lt, get_or-set_same, get_or-set_other}
+use Rattle.std.proofs.lemmas.List.{length-append, length-set, length-drop, length-take-le, take_at, drop_at, take-append-le, drop-append-le, drop-take, take-take, drop-set-lt, get_or-set_same, get_or-set_other}
 use Rattle.model.specs.declared.row.Row.{Row}
 use Rattle.model.specs.Rows.{Twelve}
 use Rattle.logs.specs.Images.{used_in}
@@ -26,10 +25,6 @@ module _ (b : List ℕ) (i : ℕ) (p : List ℕ) (within : start i + 16 ≤ leng
 
   pub length_put : length (put b i p) ≡ length b
   length_put = let f = front in simp (length-append, length-drop) (omega arith)
-
-  -- what a write to the part leaves
-  pub put_put_mid : (k : ℕ) (q : List ℕ) → k ≡ 16 → q ≡ p → put_mid (start i) k b q ≡ put b i p
-  put_put_mid k q e same = rw (e, same) (ap (λ l. take (start i) b ++ (p ++ l)) (drop-drop 16 (start i) b))
 
   pub place_put : place (put b i p) i ≡ p
   place_put = ap (λ l. take 16 l) (drop_at (take (start i) b) (p ++ drop (start i + 16) b) (start i) front) ∙ take_at p (drop (start i + 16) b) 16 sixteen

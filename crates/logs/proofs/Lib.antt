@@ -1,5 +1,4 @@
 pub mod Appended
-pub mod Blank
 pub mod Edits
 pub mod Headers
 pub mod Shapes

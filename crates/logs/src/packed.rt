@@ -1,7 +1,6 @@
 // The packed log: an intake over the bytes of an image.
 pub mod appending;
 pub mod calls;
-pub mod questions;
 pub mod showing;
 pub mod writing;
 

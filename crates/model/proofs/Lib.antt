@@ -4,6 +4,7 @@ pub mod Filled
 pub mod Fits
 pub mod Greatest
 pub mod Local
+pub mod Made
 pub mod Members
 pub mod Optima
 pub mod Passing

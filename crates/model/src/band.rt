@@ -1,9 +1,9 @@
 // The band kind: ranges of values, ends included.
-ghost use Rattle.std.specs.Prelude.{◌≡◌, ◌<◌};
+ghost use Rattle.std.specs.Prelude.{◌≡◌, ◌+◌, ◌*◌, ◌/◌, ◌<◌, ◌≤◌};
 ghost use Rattle.model.specs.Band.{band, ranges, first, last, Paired};
 ghost use Rattle.model.specs.Bands.{band_laws};
 
-use super::kind::Kind;
+use super::kind::{Kind, takes};
 
 // With k = size - (b - a + 1) the range from a to b has code k * (k + 1) / 2 + a.
 #[derive(Clone, Copy)]
@@ -49,6 +49,14 @@ const PAIRS: [(u8, u8); 36] = [
     (7, 7),
 ];
 
+// The first code of the ranges that lack so many of the values.
+fn first_code(lacks: u8) -> u8
+    requires { lacks ≤ 8 }
+    ensures { result ≡ lacks * (lacks + 1) / 2 }
+{
+    lacks * (lacks + 1) / 2
+}
+
 // The pair of a code.
 fn pair(code: u8) -> (u8, u8)
     requires { code < 36 }
@@ -79,8 +87,8 @@ impl Kind for Band {
     }
 
     fn conditions(size: u8) -> u8 {
-        if size >= 2 && size <= Self::LARGEST {
-            size * (size + 1) / 2
+        if takes(Self::LARGEST, size) {
+            first_code(size)
         } else {
             0
         }
@@ -107,8 +115,8 @@ impl Kind for Band {
     }
 
     fn pin(size: u8, value: u8) -> u8 {
-        if size >= 2 && size <= Self::LARGEST && value < size {
-            (size - 1) * size / 2 + value
+        if takes(Self::LARGEST, size) && value < size {
+            first_code(size - 1) + value
         } else {
             0
         }

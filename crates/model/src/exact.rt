@@ -1,19 +1,12 @@
 // The exact kind: any value, or equality with one value.
-ghost use Rattle.std.specs.Prelude.{◌≡◌};
-ghost use Rattle.model.specs.Exact.{exact, in_range};
+ghost use Rattle.model.specs.Exact.{exact};
 ghost use Rattle.model.specs.Exacts.{exact_laws};
 
-use super::kind::Kind;
+use super::kind::{Kind, takes};
 
 // Code 0 is any value, and 1 + v is equality with v.
 #[derive(Clone, Copy)]
 pub struct Exact;
-
-fn takes(size: u8) -> bool
-    ensures { result ≡ in_range size }
-{
-    size >= 2 && size <= Exact::LARGEST
-}
 
 impl Kind for Exact {
     const LARGEST: u8 = 8;
@@ -27,19 +20,23 @@ impl Kind for Exact {
     }
 
     fn conditions(size: u8) -> u8 {
-        if takes(size) { size + 1 } else { 0 }
+        if takes(Self::LARGEST, size) {
+            size + 1
+        } else {
+            0
+        }
     }
 
     fn holds(size: u8, code: u8, value: u8) -> bool {
-        takes(size) && value < size && (code == 0 || code == value + 1)
+        takes(Self::LARGEST, size) && value < size && (code == 0 || code == value + 1)
     }
 
     fn weaker(size: u8, code: u8, other: u8) -> bool {
-        takes(size) && code <= size && other <= size && (code == 0 || code == other)
+        takes(Self::LARGEST, size) && code <= size && other <= size && (code == 0 || code == other)
     }
 
     fn pin(size: u8, value: u8) -> u8 {
-        if takes(size) && value < size {
+        if takes(Self::LARGEST, size) && value < size {
             value + 1
         } else {
             0

@@ -1,6 +1,6 @@
 // What a condition kind is: for each size from 2 up to a largest, conditions on one value, coded from 0.
 // An `impl` gives its meaning and proves that it keeps the four laws, and that each call answers as the meaning has it.
-ghost use Rattle.std.specs.Prelude.{◌≡◌};
+ghost use Rattle.std.specs.Prelude.{◌≡◌, ◌&&◌, nat_le};
 ghost use Rattle.model.specs.Kinds.{Meaning, Laws};
 
 pub trait Kind {
@@ -9,7 +9,7 @@ pub trait Kind {
 
     ghost meaning: { Meaning };
 
-    // The largest size that the kind takes.
+    // The largest size that the kind takes, with a clause for code over any kind, since a constant has none.
     fn widest() -> u8
         ensures { result ≡ meaning.largest };
 
@@ -30,4 +30,11 @@ pub trait Kind {
         ensures { result ≡ meaning.pin size value };
 
     ghost lawful: { Laws meaning };
+}
+
+// Whether a size is one of 2 up to the largest.
+pub(crate) fn takes(largest: u8, size: u8) -> bool
+    ensures { result ≡ (nat_le 2 size && nat_le size largest) }
+{
+    (2..=largest).contains(&size)
 }

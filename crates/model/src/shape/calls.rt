@@ -17,12 +17,8 @@ impl Shape {
         if target_sizes.len() > 4 {
             return Err(Refusal::Shape);
         }
-        let Some(features) = Sizes::new(feature_sizes) else {
-            return Err(Refusal::Shape);
-        };
-        let Some(targets) = Sizes::new(target_sizes) else {
-            return Err(Refusal::Shape);
-        };
+        let features = Sizes::new(feature_sizes)?;
+        let targets = Sizes::new(target_sizes)?;
         Ok(Shape { features, targets })
     }
 
@@ -59,6 +55,15 @@ impl Shape {
         ensures lawful { Lawful 8 result.now }
     {
         self.features.as_slice()
+    }
+
+    // The sizes of the targets, in order.
+    pub fn target_sizes(&self) -> &[u8]
+        ensures value { result.now ≡ targets self.now }
+        ensures lawful { Lawful 8 result.now }
+        ensures few { length result.now ≤ 4 }
+    {
+        self.targets.as_slice()
     }
 
     // The size of a feature, or 0 where there is none.

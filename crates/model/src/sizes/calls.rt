@@ -1,28 +1,44 @@
 // Making sizes from numbers, and reading them.
-ghost use Rattle.std.specs.Prelude.{◌≡◌, ◌≤◌, [], ◌∷◌, length, MatchOption, slice_index};
-ghost use Rattle.model.specs.Sizes.{Lawful};
+ghost use Rattle.std.specs.Prelude.{◌≡◌, ◌<◌, ◌≤◌, [], ◌∷◌, length, MatchResult, IsTrue, ◌↔◌, slice_index, EachIndex};
+ghost use Rattle.model.specs.Memory.{place};
+ghost use Rattle.model.specs.Sizes.{Size, Lawful};
 ghost use Rattle.model.specs.Shapes.{sizes_of};
 ghost use Rattle.model.specs.Values.{Decoded};
+ghost use Rattle.model.specs.declared.refusal.Refusal.TheVariants.{Shape as refused_shape};
 
+use super::super::refusal::Refusal;
 use super::Sizes;
+use std::array;
+
+// Whether each number is a size, 2 to 8.
+fn sized(numbers: &[u16]) -> bool
+    ensures { IsTrue result ↔ EachIndex numbers.now (λ k. Size (slice_index numbers.now k)) }
+{
+    numbers.iter().all(|n| (2..=8).contains(n))
+}
+
+// The numbers as bytes, with 0 beyond the last.
+fn padded(numbers: &[u16]) -> [u8; 8]
+    requires few { length numbers.now ≤ 8 }
+    requires small { EachIndex numbers.now (λ k. slice_index numbers.now k < 256) }
+    ensures { result ≡ place numbers.now }
+{
+    array::from_fn(|i| match numbers.get(i) {
+        Some(n) => *n as u8,
+        None => 0
+    })
+}
 
 impl Sizes {
     // The numbers as sizes, where there are one to eight of them and each is 2 to 8.
-    pub(crate) fn new(numbers: &[u16]) -> Option<Sizes>
-        ensures { MatchOption result (Lawful 8 numbers.now → ⊥) (λ s. Lawful 8 numbers.now × (sizes_of s ≡ numbers.now)) }
+    pub(crate) fn new(numbers: &[u16]) -> Result<Sizes, Refusal>
+        ensures { MatchResult result (λ s. Lawful 8 numbers.now × (sizes_of s ≡ numbers.now)) (λ e. (e ≡ refused_shape) × (Lawful 8 numbers.now → ⊥)) }
     {
-        if numbers.is_empty() || numbers.len() > 8 {
-            return None;
+        if numbers.is_empty() || numbers.len() > 8 || !sized(numbers) {
+            return Err(Refusal::Shape);
         }
-        let mut values = [0u8; 8];
-        'sizes: for (i, n) in numbers.iter().enumerate() {
-            if *n < 2 || *n > 8 {
-                return None;
-            }
-            values[i] = *n as u8;
-        }
-        Some(Sizes {
-            values,
+        Ok(Sizes {
+            values: padded(numbers),
             count: numbers.len(),
         })
     }
@@ -50,7 +66,7 @@ impl Sizes {
     pub(crate) fn at(&self, i: usize) -> u8
         ensures { result ≡ slice_index (sizes_of self.now) i }
     {
-        if i < self.count { self.values[i] } else { 0 }
+        self.as_slice().get(i).copied().unwrap_or(0)
     }
 
     // All of them, in order.
@@ -58,23 +74,17 @@ impl Sizes {
         ensures value { result.now ≡ sizes_of self.now }
         ensures lawful { Lawful 8 result.now }
     {
-        &self.values[0..self.count]
+        &self.values[..self.count]
     }
 
     // One value for each size, as bytes with 0 beyond the last; none where their number or one of them does not fit.
     pub(crate) fn values(&self, numbers: &[u16]) -> Option<[u8; 8]>
         ensures { Decoded (sizes_of self.now) numbers.now result }
     {
-        if numbers.len() != self.count {
+        let fit = |(n, size): (&u16, &u8)| *n < u16::from(*size);
+        if numbers.len() != self.count || !numbers.iter().zip(self.as_slice()).all(fit) {
             return None;
         }
-        let mut values = [0u8; 8];
-        'numbers: for (i, n) in numbers.iter().enumerate() {
-            if *n >= u16::from(self.values[i]) {
-                return None;
-            }
-            values[i] = *n as u8;
-        }
-        Some(values)
+        Some(padded(numbers))
     }
 }
