@@ -1,4 +1,4 @@
--- A listing over equal bytes and an equal shape is a listing over the image. Assumes nothing.
+-- A listing over equal bytes is a listing over the image. Assumes nothing.
 use Rattle.std.proofs.Common.{◌≡◌, ℕ, List, IsErrAnd, Ok, Err, Result, sym, subst, inr}
 use Rattle.model.specs.Kinds.{Meaning}
 use Rattle.model.specs.Wholes.{ListedWhole}
@@ -13,14 +13,11 @@ use Rattle.calls.specs.declared.trouble.Trouble.{Trouble}
 use Rattle.calls.specs.declared.trouble.Trouble.TheVariants.{Refused}
 
 module _ (m : Meaning) (image : List ℕ) (h : Head) (sense : Sense) (before after : List ℕ) where
-  abbrev Over : Result ℕ Refusal → Shape → List ℕ → Type 0
-  Over r s bytes = ListedWhole m s (shown bytes) h sense before after r
-
-  pub over_from_equals : (r : Result ℕ Refusal) (s t : Shape) (bytes : List ℕ) → ImageOf image s → t ≡ s → bytes ≡ image → Over r t bytes → ListedOver m image h sense before after r
-  over_from_equals r s t bytes image_of shape same listed = record {
+  pub over_from_bytes : (r : Result ℕ Refusal) (s : Shape) (bytes : List ℕ) → ImageOf image s → bytes ≡ image → ListedWhole m s (shown bytes) h sense before after r → ListedOver m image h sense before after r
+  over_from_bytes r s bytes image_of same listed = record {
     shape = s;
     image_of = image_of;
-    listed = subst (λ u. Over r u image) shape (subst (Over r t) same listed);
+    listed = subst (λ u. ListedWhole m s (shown u) h sense before after r) same listed;
   }
 
   -- a listing that is refused, as the call's own answer

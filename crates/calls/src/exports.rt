@@ -5,12 +5,13 @@ ghost use Rattle.model.specs.Exact.{exact as exact_kind};
 ghost use Rattle.calls.specs.Answers.{Answered};
 ghost use Rattle.calls.specs.Called.{head_of, sense_of};
 
-use super::answer::{Answer, in_numbers};
+use super::answer::Answer;
 use super::listing::list_image;
 use model::{Band, Exact, Head, Sense};
 use std::alloc::Global;
 
-// Lists the optimal rules of a head and a sense over an image, by band or by exact conditions.
+// Lists the optimal rules of a head and a sense over an image, by band or by exact conditions. Its parameters are plain
+// numbers and bools, one by one, since a C program passes them.
 pub fn rulebook_list(
     heap: Global,
     band: bool,
@@ -29,5 +30,5 @@ pub fn rulebook_list(
     } else {
         list_image::<Exact>(heap, image, head, sense, rules)
     };
-    in_numbers(listed)
+    listed.into()
 }

@@ -4,7 +4,7 @@ ghost use Rattle.calls.specs.Called.{Called};
 use super::trouble::Trouble;
 use logs::{PackedLog, check};
 use model::{Head, Kind, Sense};
-use pruned::{Survey, list};
+use search::{Survey, list};
 use std::alloc::Global;
 
 // Checks the image, copies it into a log, and fills rule memory with the optimal rules of a head and a sense.

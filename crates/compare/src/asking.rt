@@ -1,136 +1,73 @@
-// The answers of a book, and of the search that prunes, beside those of the definitions.
+// The answers of a book, and of a search called directly, beside those of the definitions.
 use super::bodies::{Body, State};
-use super::observations::Observation;
+use super::cases::{Case, MOST_BODIES};
+use super::definition::Question;
+use super::forecasts::Forecast;
+use super::memory::Memory;
+use super::trouble::Trouble;
 use book::Book;
 use logs::PackedLog;
-use model::{Head, Intake, Kind, Refusal, Row, Sense, Shape};
-use pruned::{Survey, forecast, list};
+use model::{Head, Intake, Kind, Refusal, Shape};
+use search::{Survey, forecast, list};
+use std::alloc::Global;
 
-// What a byte of rule memory holds before a listing.
-const UNTOUCHED: u8 = 255;
-
-// A book, and working memory for the search that prunes, which is asked the same over the book's log.
+// A book, and working memory for the search that is called directly, which is asked the same over the book's log.
 #[derive(Drop)]
 pub(crate) struct Searches<K: Kind + Drop> {
-    pub(crate) book: Book<K, PackedLog>,
-    pub(crate) survey: Survey,
+    book: Book<K, PackedLog>,
+    survey: Survey,
+    memory: Memory,
 }
 
-// The cells of an observation: the state in 0 to 7, the outcome in 8 to 11.
-fn row_of(seen: &Observation) -> Row {
-    let mut cells = [0u8; 12];
-    for i in 0..12usize {
-        cells[i] = if i < 8 {
-            seen.state[i]
-        } else {
-            seen.outcome[i - 8]
-        };
+impl<K: Kind + Drop> Searches<K> {
+    pub(crate) fn new(heap: Global) -> Result<Searches<K>, Trouble> {
+        let log = PackedLog::new(vec![in heap; 0; 1024]?);
+        Ok(Searches {
+            book: Book::new(Shape::smallest(), log, Survey::new(heap)?),
+            survey: Survey::new(heap)?,
+            memory: Memory::new(heap, MOST_BODIES)?,
+        })
     }
-    Row {
-        class: 1,
-        day: 0,
-        cells,
-    }
-}
 
-// Makes an image the log of the observations.
-pub(crate) fn record(
-    packed: &mut PackedLog,
-    shape: &Shape,
-    log: &[Observation],
-) -> Result<(), Refusal> {
-    packed.format(shape)?;
-    for seen in log {
-        packed.append(row_of(seen))?;
-    }
-    Ok(())
-}
-
-// Whether rule memory begins with the optimal bodies.
-fn begins_with(memory: &[u8], bodies: &[Body]) -> bool {
-    let mut at = 0usize;
-    for body in bodies {
-        if body.optimal {
-            let end = at.saturating_add(8);
-            if memory.get(at..end) != Some(body.codes.as_slice()) {
-                return false;
-            }
-            at = end;
+    // Gives the book a case's shape, and its log just the observations.
+    pub(crate) fn take(&mut self, case: &Case) -> Result<(), Refusal> {
+        self.book.shape = case.shape;
+        self.book.log.format(&case.shape)?;
+        for seen in &case.log {
+            self.book.log.append(seen.into())?;
         }
+        Ok(())
     }
-    true
-}
 
-fn is_untouched(memory: &[u8], from: usize) -> bool {
-    for byte in memory.iter().skip(from) {
-        if *byte != UNTOUCHED {
-            return false;
-        }
+    // Whether both list just the optimal bodies, and leave the rest of rule memory as it was.
+    pub(crate) fn list(&mut self, asked: &Question, optimal: &[Body]) -> Result<bool, Refusal> {
+        let Question { head, sense, .. } = *asked;
+        let rules = self.book.list(head, sense, self.memory.wiped())?;
+        let same = self.memory.holds_just(rules, optimal);
+        let rules = list::<K, PackedLog>(
+            &self.book.shape,
+            &self.book.log,
+            &mut self.survey,
+            head,
+            sense,
+            self.memory.wiped(),
+        )?;
+        Ok(same && self.memory.holds_just(rules, optimal))
     }
-    true
-}
 
-pub(crate) fn count_optimal(bodies: &[Body]) -> u32 {
-    let mut rules = 0u32;
-    for body in bodies {
-        if body.optimal {
-            rules = rules.saturating_add(1);
-        }
+    // Whether both forecast this at a state.
+    pub(crate) fn forecast(
+        &mut self,
+        head: Head,
+        state: &State,
+        wanted: Forecast,
+    ) -> Result<bool, Refusal> {
+        let shape = self.book.shape;
+        let numbers = state.map(u16::from);
+        let given = &numbers[..shape.feature_count()];
+        let of_book = self.book.forecast(head, given)?;
+        let survey = &mut self.survey;
+        let direct = forecast::<K, PackedLog>(&shape, &self.book.log, survey, head, given)?;
+        Ok(wanted == of_book.into() && wanted == direct.into())
     }
-    rules
-}
-
-// Whether so many rules in rule memory are just the optimal bodies, and the rest of it is as it was.
-fn holds_just(memory: &[u8], bodies: &[Body], rules: u32) -> bool {
-    let same = rules == count_optimal(bodies) && begins_with(memory, bodies);
-    same && is_untouched(memory, 8 * rules as usize)
-}
-
-// Whether the book and the search that prunes list just the optimal bodies, and leave the rest of rule memory as it was.
-pub(crate) fn lists<K: Kind + Drop>(
-    searches: &mut Searches<K>,
-    head: Head,
-    sense: Sense,
-    bodies: &[Body],
-    memory: &mut [u8],
-) -> Result<bool, Refusal> {
-    memory.fill(UNTOUCHED);
-    let rules = searches.book.list(head, sense, memory)?;
-    let same = holds_just(memory, bodies, rules);
-    memory.fill(UNTOUCHED);
-    let book = &searches.book;
-    let rules = list::<K, PackedLog>(
-        &book.shape,
-        &book.log,
-        &mut searches.survey,
-        head,
-        sense,
-        memory,
-    )?;
-    Ok(same && holds_just(memory, bodies, rules))
-}
-
-// The values of a state as a caller gives them.
-fn numbers_of(state: &State) -> [u16; 8] {
-    let mut numbers = [0u16; 8];
-    for i in 0..8usize {
-        numbers[i] = u16::from(state[i]);
-    }
-    numbers
-}
-
-// Whether the book and the search that prunes forecast these weights and this percentage.
-pub(crate) fn forecasts<K: Kind + Drop>(
-    searches: &mut Searches<K>,
-    head: Head,
-    state: &State,
-    wanted: (u32, u32, u32),
-) -> Result<bool, Refusal> {
-    let shape = searches.book.shape;
-    let numbers = numbers_of(state);
-    let given = &numbers[0..shape.feature_count()];
-    let of_book = searches.book.forecast(head, given)?;
-    let survey = &mut searches.survey;
-    let of_pruned = forecast::<K, PackedLog>(&shape, &searches.book.log, survey, head, given)?;
-    Ok(of_book == wanted && of_pruned == wanted)
 }

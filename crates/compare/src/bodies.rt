@@ -1,76 +1,99 @@
-// Bodies of rules, each with the values that its conditions hold of.
+// Bodies of rules, each condition with the values that it holds of.
 use super::conditions::Conditions;
 use model::Shape;
+use std::alloc::{AllocError, Global};
 
 // A value for each feature, 0 beyond them.
 pub(crate) type State = [u8; 8];
 
-// The codes, 0 beyond the features; the sets of values, all values beyond them; and what was found of the rule.
-#[derive(Clone, Copy)]
-pub(crate) struct Body {
-    pub(crate) codes: [u8; 8],
-    sets: [u8; 8],
-    pub(crate) consistent: bool,
-    pub(crate) optimal: bool,
+// What stands for a value in a set of values.
+fn bit(value: u8) -> u8 {
+    1 << (value % 8)
 }
 
-// The body without conditions.
-pub(crate) const UNCONDITIONAL: Body = Body {
-    codes: [0; 8],
-    sets: [255; 8],
-    consistent: false,
-    optimal: false,
-};
+// A condition's code, and the set of the values that it holds of.
+#[derive(Clone, Copy, PartialEq, Eq)]
+struct Condition {
+    code: u8,
+    values: u8,
+}
+
+impl Condition {
+    // The condition of every value.
+    const NONE: Condition = Condition {
+        code: 0,
+        values: 255,
+    };
+
+    fn new<C: Conditions>(size: u8, code: usize) -> Condition {
+        Condition {
+            code: (code % 256) as u8,
+            values: (0..size.min(8))
+                .filter(|value| C::holds(size, code, *value))
+                .fold(0, |set, value| set | bit(value)),
+        }
+    }
+
+    fn holds(self, value: u8) -> bool {
+        self.values & bit(value) != 0
+    }
+
+    // Whether it holds wherever the other does.
+    fn is_weaker(self, other: Condition) -> bool {
+        self.values | other.values == self.values
+    }
+}
+
+// A condition on each feature, and none beyond them.
+#[derive(Clone, Copy, PartialEq, Eq)]
+pub(crate) struct Body {
+    conditions: [Condition; 8],
+}
 
 impl Body {
+    // The body whose codes are the digits of a number, the last feature's the lowest.
+    fn numbered<C: Conditions>(shape: &Shape, number: usize) -> Body {
+        let mut conditions = [Condition::NONE; 8];
+        let mut left = number;
+        for (condition, size) in conditions.iter_mut().zip(shape.feature_sizes()).rev() {
+            let base = C::count(u16::from(*size)).max(1);
+            *condition = Condition::new::<C>(*size, left % base);
+            left /= base;
+        }
+        Body { conditions }
+    }
+
+    // Its eight codes.
+    pub(crate) fn codes(&self) -> [u8; 8] {
+        self.conditions.map(|condition| condition.code)
+    }
+
     // Whether each condition holds of the state's value.
     pub(crate) fn matches(&self, state: &State) -> bool {
-        for i in 0..8usize {
-            if self.sets[i] & (1u8 << (state[i] % 8)) == 0 {
-                return false;
-            }
-        }
-        true
+        self.conditions
+            .iter()
+            .zip(state)
+            .all(|(condition, value)| condition.holds(*value))
     }
 
     // Whether each condition holds wherever the other body's does.
     pub(crate) fn dominates(&self, other: &Body) -> bool {
-        for i in 0..8usize {
-            if self.sets[i] | other.sets[i] != self.sets[i] {
-                return false;
-            }
-        }
-        true
+        self.conditions
+            .iter()
+            .zip(&other.conditions)
+            .all(|(mine, others)| mine.is_weaker(*others))
     }
 }
 
-// The body whose codes are the digits of a number, the last feature's the lowest.
-fn numbered(conditions: Conditions, shape: &Shape, number: usize) -> Body {
-    let mut body = UNCONDITIONAL;
-    let mut left = number;
-    for i in (0..shape.feature_count()).rev() {
-        let size = shape.feature_size(i);
-        let base = conditions.count(u16::from(size)).max(1);
-        let code = left % base;
-        left /= base;
-        body.codes[i] = (code % 256) as u8;
-        body.sets[i] = conditions.values(size, code);
-    }
-    body
-}
-
-// How many bodies there are.
-pub(crate) fn count(conditions: Conditions, shape: &Shape) -> usize {
-    let mut product = 1usize;
-    for size in shape.feature_sizes() {
-        product = product.saturating_mul(conditions.count(u16::from(*size)));
-    }
-    product
-}
-
-// The first bodies of a shape, in rising order.
-pub(crate) fn fill(conditions: Conditions, shape: &Shape, bodies: &mut [Body]) {
-    for i in 0..bodies.len() {
-        bodies[i] = numbered(conditions, shape, i);
-    }
+// Every body of a shape, in rising order.
+pub(crate) fn all_bodies<C: Conditions>(
+    heap: Global,
+    shape: &Shape,
+) -> Result<Vec<Body>, AllocError> {
+    let count = shape.feature_sizes().iter().fold(1usize, |product, size| {
+        product.saturating_mul(C::count(u16::from(*size)))
+    });
+    (0..count)
+        .map(|number| Body::numbered::<C>(shape, number))
+        .collect(heap)
 }

@@ -1,121 +1,96 @@
 // Random cases of a condition kind, each asked both ways.
-use super::asking::{Searches, count_optimal, forecasts, lists, record};
-use super::bodies::{Body, State, count, fill};
-use super::cases::{MOST_ROWS, random_log, random_shape, random_state};
+use super::asking::Searches;
+use super::bodies::State;
+use super::cases::{Case, random_state};
 use super::conditions::Conditions;
-use super::definition::{best_weight, mark, percentage};
-use super::observations::Observation;
+use super::definition::Question;
+use super::forecasts::Forecast;
 use super::random::Random;
-use super::scores::{Score, Scores};
-use model::{Head, Kind, Log, Refusal, Sense};
+use super::scores::Scores;
+use super::trouble::Trouble;
+use model::{Head, Kind, Sense};
+use std::alloc::Global;
 
-// One listing; the answer is the best weight at a state.
-fn compare_listing<K: Kind + Drop>(
-    searches: &mut Searches<K>,
-    bodies: &mut [Body],
-    memory: &mut [u8],
-    log: &[Observation],
-    head: Head,
-    sense: Sense,
-    state: &State,
-    score: &mut Score,
-) -> Result<u32, Refusal> {
-    mark(bodies, log, head, sense);
-    let same = lists(searches, head, sense, bodies, memory)?;
-    score.count(same, count_optimal(bodies));
-    Ok(best_weight(bodies, log, head, sense, state))
+// The searches of a kind, and how their answers have agreed so far.
+#[derive(Drop)]
+pub(crate) struct Comparison<K: Kind + Drop> {
+    heap: Global,
+    searches: Searches<K>,
+    scores: Scores,
 }
 
-// Both listings of a head, and its forecast at a state.
-fn compare_head<K: Kind + Drop>(
-    searches: &mut Searches<K>,
-    bodies: &mut [Body],
-    memory: &mut [u8],
-    log: &[Observation],
-    head: Head,
-    state: &State,
-    scores: &mut Scores,
-) -> Result<(), Refusal> {
-    let Scores {
-        can,
-        cannot,
-        forecast,
-    } = scores;
-    let pro = compare_listing(searches, bodies, memory, log, head, Sense::Can, state, can)?;
-    let contra = compare_listing(
-        searches,
-        bodies,
-        memory,
-        log,
-        head,
-        Sense::Cannot,
-        state,
-        cannot,
-    )?;
-    let percent = percentage(pro, contra);
-    let same = forecasts(searches, head, state, (pro, contra, percent))?;
-    forecast.count(same, percent);
-    Ok(())
-}
+impl<K: Kind + Drop> Comparison<K> {
+    pub(crate) fn new(heap: Global) -> Result<Comparison<K>, Trouble> {
+        Ok(Comparison {
+            heap,
+            searches: Searches::new(heap)?,
+            scores: Scores::default(),
+        })
+    }
 
-// Every head of the book's shape: eight numbers for each of the four targets that there may be.
-fn compare_heads<K: Kind + Drop>(
-    searches: &mut Searches<K>,
-    bodies: &mut [Body],
-    memory: &mut [u8],
-    log: &[Observation],
-    random: &mut Random,
-    scores: &mut Scores,
-) -> Result<(), Refusal> {
-    let shape = searches.book.shape;
-    for number in 0..32u16 {
-        let head = Head {
-            target: number / 8,
-            value: number % 8,
+    // One listing; the answer is the best weight at a state.
+    fn compare_listing(
+        &mut self,
+        case: &Case,
+        head: Head,
+        sense: Sense,
+        state: &State,
+    ) -> Result<usize, Trouble> {
+        let question = Question {
+            log: &case.log,
+            head,
+            sense,
         };
-        if head.value < u16::from(shape.target_size(usize::from(head.target))) {
-            let state = random_state(&shape, random);
-            compare_head(searches, bodies, memory, log, head, &state, scores)?;
-        }
+        let optimal = question.optimal(self.heap, &case.bodies)?;
+        let same = self.searches.list(&question, &optimal)?;
+        self.scores.of(sense).count(same, optimal.len());
+        Ok(question.best_weight(&optimal, state))
     }
-    Ok(())
-}
 
-// A random shape, with the first rows of a random log.
-fn compare_case<K: Kind + Drop>(
-    searches: &mut Searches<K>,
-    room: &mut [Body],
-    memory: &mut [u8],
-    conditions: Conditions,
-    random: &mut Random,
-    scores: &mut Scores,
-) -> Result<(), Refusal> {
-    let shape = random_shape(conditions, random)?;
-    let all = random_log(&shape, random);
-    let rows = usize::from(random.below(41)).min(MOST_ROWS);
-    let log = &all[0..rows];
-    let bodies = count(conditions, &shape);
-    if bodies > room.len() {
-        return Err(Refusal::Bodies);
+    // Both listings of a head, and its forecast at a state.
+    fn compare_head(&mut self, case: &Case, head: Head, state: &State) -> Result<(), Trouble> {
+        let pro = self.compare_listing(case, head, Sense::Can, state)?;
+        let contra = self.compare_listing(case, head, Sense::Cannot, state)?;
+        let wanted = Forecast::of(pro, contra);
+        let same = self.searches.forecast(head, state, wanted)?;
+        self.scores.forecast.count(same, wanted.percent);
+        Ok(())
     }
-    fill(conditions, &shape, &mut room[0..bodies]);
-    searches.book.shape = shape;
-    record(&mut searches.book.log, &shape, log)?;
-    compare_heads(searches, &mut room[0..bodies], memory, log, random, scores)
+
+    // Every head of a target, each at a random state.
+    fn compare_target(
+        &mut self,
+        case: &Case,
+        target: u16,
+        random: &mut Random,
+    ) -> Result<(), Trouble> {
+        for value in 0..u16::from(case.shape.target_size(usize::from(target))) {
+            let state = random_state(&case.shape, random);
+            self.compare_head(case, Head { target, value }, &state)?;
+        }
+        Ok(())
+    }
+
+    // Every head of the four targets that there may be.
+    fn compare_case(&mut self, case: &Case, random: &mut Random) -> Result<(), Trouble> {
+        self.searches.take(case)?;
+        for target in 0..4 {
+            self.compare_target(case, target, random)?;
+        }
+        Ok(())
+    }
 }
 
 // So many random cases.
-pub(crate) fn compare<K: Kind + Drop>(
-    searches: &mut Searches<K>,
-    bodies: &mut [Body],
-    memory: &mut [u8],
-    conditions: Conditions,
+pub(crate) fn compare<K: Kind + Conditions + Drop>(
+    heap: Global,
     random: &mut Random,
     cases: u32,
-) -> Result<Scores, Refusal> {
-    let mut scores = Scores::zero();
+) -> Result<Scores, Trouble> {
+    let mut comparison: Comparison<K> = Comparison::new(heap)?;
     for _ in 0..cases {
-        compare_case(searches, bodies, memory, conditions, random, &mut scores)?;
+        let case = Case::random::<K>(heap, random)?;
+        comparison.compare_case(&case, random)?;
     }
-    Ok(scores)
+    Ok(comparison.scores)
 }

@@ -1,53 +1,46 @@
 // What the conditions of the two kinds mean, written from the definitions alone.
+use model::{Band, Exact};
+use std::ops::RangeInclusive;
 
-#[derive(Clone, Copy)]
-pub(crate) enum Conditions {
-    Exact,
-    Band,
-}
-
-impl Conditions {
+// The conditions of a kind. Code that has no other bound cannot ask the library what they mean.
+pub(crate) trait Conditions {
     // How many conditions there are at a size.
-    pub(crate) fn count(self, size: u16) -> usize {
-        let values = usize::from(size);
-        match self {
-            Conditions::Exact => values + 1,
-            Conditions::Band => values * (values + 1) / 2,
-        }
-    }
+    fn count(size: u16) -> usize;
 
     // Whether a condition holds of a value.
-    fn holds(self, size: u8, code: usize, value: usize) -> bool {
-        match self {
-            Conditions::Exact => code == 0 || code - 1 == value,
-            Conditions::Band => {
-                let (first, last) = range(usize::from(size), code);
-                first <= value && value <= last
-            }
-        }
+    fn holds(size: u8, code: usize, value: u8) -> bool;
+}
+
+impl Conditions for Exact {
+    fn count(size: u16) -> usize {
+        usize::from(size) + 1
     }
 
-    // The set of the values that a condition holds of: bit v stands for the value v.
-    pub(crate) fn values(self, size: u8, code: usize) -> u8 {
-        let mut set = 0u8;
-        for value in 0..8usize {
-            if value < usize::from(size) && self.holds(size, code, value) {
-                set |= 1u8 << value;
-            }
-        }
-        set
+    fn holds(_size: u8, code: usize, value: u8) -> bool {
+        code == 0 || code - 1 == usize::from(value)
     }
 }
 
-// The first and the last value of a range. One range lacks no value, two lack one, three lack two, and so on: they are
-// coded in this order, and those of one length by their first value.
-fn range(size: usize, code: usize) -> (usize, usize) {
+impl Conditions for Band {
+    fn count(size: u16) -> usize {
+        let values = usize::from(size);
+        values * (values + 1) / 2
+    }
+
+    fn holds(size: u8, code: usize, value: u8) -> bool {
+        range(usize::from(size), code).is_some_and(|range| range.contains(&usize::from(value)))
+    }
+}
+
+// The values of a range. One range lacks no value, two lack one, three lack two, and so on: they are coded in this order,
+// and those of one length by their first value.
+fn range(size: usize, code: usize) -> Option<RangeInclusive<usize>> {
     let mut left = code;
     for lacking in 0..size {
         if left <= lacking {
-            return (left, left + (size - lacking - 1));
+            return Some(left..=left + (size - lacking - 1));
         }
         left -= lacking + 1;
     }
-    (1, 0)
+    None
 }

@@ -1,82 +1,84 @@
-// Optimal rules and forecasts by the definitions: every body is tried, and compared with every consistent one.
+// Optimal rules and weights by the definitions: every body is tried, and compared with every consistent one.
 use super::bodies::{Body, State};
-use super::observations::{Observation, is_against, shows};
+use super::observations::Observation;
 use model::{Head, Sense};
+use std::alloc::{AllocError, Global};
 
-// Whether a rule matches no state against.
-fn is_consistent(log: &[Observation], head: Head, sense: Sense, rule: &Body) -> bool {
-    for seen in log {
-        if rule.matches(&seen.state) && is_against(log, &seen.state, head, sense) {
-            return false;
+// What rules are asked for: a head and a sense, over a log.
+#[derive(Clone, Copy)]
+pub(crate) struct Question<'a> {
+    pub(crate) log: &'a [Observation],
+    pub(crate) head: Head,
+    pub(crate) sense: Sense,
+}
+
+impl Question<'_> {
+    // Whether the log shows a state with the head's value.
+    fn came_with(&self, state: &State) -> bool {
+        self.log
+            .iter()
+            .any(|seen| seen.state == *state && seen.has(self.head))
+    }
+
+    // Whether a state that the log shows is against the head.
+    fn is_against(&self, state: &State) -> bool {
+        match self.sense {
+            Sense::Can => !self.came_with(state),
+            Sense::Cannot => self.came_with(state),
         }
     }
-    true
-}
 
-fn mark_consistent(bodies: &mut [Body], log: &[Observation], head: Head, sense: Sense) {
-    for i in 0..bodies.len() {
-        let rule = bodies[i];
-        bodies[i].consistent = is_consistent(log, head, sense, &rule);
+    // Whether a rule matches no state against.
+    fn is_consistent(&self, rule: &Body) -> bool {
+        !self.log.iter().any(|seen| rule.matches(&seen.state) && self.is_against(&seen.state))
+    }
+
+    // The rules that are optimal among all bodies, in the order of these.
+    pub(crate) fn optimal(&self, heap: Global, bodies: &[Body]) -> Result<Vec<Body>, AllocError> {
+        let consistent: Vec<Body> = bodies
+            .iter()
+            .copied()
+            .filter(|rule| self.is_consistent(rule))
+            .collect(heap)?;
+        consistent
+            .iter()
+            .copied()
+            .filter(|rule| !is_dominated(rule, &consistent))
+            .collect(heap)
+    }
+
+    // How many different shown states a rule matches that are not against: each is counted where it is shown first.
+    fn weight(&self, rule: &Body) -> usize {
+        self.log
+            .iter()
+            .enumerate()
+            .filter(|(earlier, seen)| {
+                rule.matches(&seen.state)
+                    && !shows(self.log, *earlier, &seen.state)
+                    && !self.is_against(&seen.state)
+            })
+            .count()
+    }
+
+    // The largest weight among the optimal rules that match a state, or 0.
+    pub(crate) fn best_weight(&self, optimal: &[Body], state: &State) -> usize {
+        optimal
+            .iter()
+            .filter(|rule| rule.matches(state))
+            .map(|rule| self.weight(rule))
+            .max()
+            .unwrap_or(0)
     }
 }
 
-// Whether another consistent rule dominates this one.
-fn is_dominated(rule: &Body, bodies: &[Body]) -> bool {
-    for other in bodies {
-        if other.consistent && other.codes != rule.codes && other.dominates(rule) {
-            return true;
-        }
-    }
-    false
+// Whether another of the rules dominates this one. That it is another is asked last, where few are left.
+fn is_dominated(rule: &Body, rules: &[Body]) -> bool {
+    rules
+        .iter()
+        .any(|other| other.dominates(rule) && *other != *rule)
 }
 
-fn mark_optimal(bodies: &mut [Body]) {
-    for i in 0..bodies.len() {
-        let rule = bodies[i];
-        bodies[i].optimal = rule.consistent && !is_dominated(&rule, bodies);
-    }
-}
-
-// Marks the rules of a head and a sense that are consistent and optimal.
-pub(crate) fn mark(bodies: &mut [Body], log: &[Observation], head: Head, sense: Sense) {
-    mark_consistent(bodies, log, head, sense);
-    mark_optimal(bodies);
-}
-
-// How many different shown states a rule matches that are not against: each is counted where it is shown first.
-fn weight(log: &[Observation], head: Head, sense: Sense, rule: &Body) -> u32 {
-    let mut states = 0u32;
-    for (i, seen) in log.iter().enumerate() {
-        let counts = rule.matches(&seen.state) && !shows(&log[0..i], &seen.state);
-        if counts && !is_against(log, &seen.state, head, sense) {
-            states = states.saturating_add(1);
-        }
-    }
-    states
-}
-
-// The largest weight among the optimal rules that match a state, or 0.
-pub(crate) fn best_weight(
-    bodies: &[Body],
-    log: &[Observation],
-    head: Head,
-    sense: Sense,
-    state: &State,
-) -> u32 {
-    let mut best = 0;
-    for rule in bodies {
-        if rule.optimal && rule.matches(state) {
-            best = weight(log, head, sense, rule).max(best);
-        }
-    }
-    best
-}
-
-// The share of the weight that is for the head, in percent; 50 where there is none.
-pub(crate) fn percentage(pro: u32, contra: u32) -> u32 {
-    let both = pro.saturating_add(contra);
-    if both == 0 {
-        return 50;
-    }
-    pro.saturating_mul(100) / both
+// Whether one of the first observations of a log, up to a number of them, shows a state.
+fn shows(log: &[Observation], first: usize, state: &State) -> bool {
+    log.iter().take(first).any(|seen| seen.state == *state)
 }

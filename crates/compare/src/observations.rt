@@ -1,6 +1,6 @@
-// Observations, and the states that they show.
+// Observations.
 use super::bodies::State;
-use model::{Head, Sense};
+use model::{Head, Row};
 
 #[derive(Clone, Copy)]
 pub(crate) struct Observation {
@@ -9,38 +9,23 @@ pub(crate) struct Observation {
 }
 
 impl Observation {
-    fn has(&self, head: Head) -> bool {
-        match self.outcome.get(usize::from(head.target)) {
-            Some(value) => u16::from(*value) == head.value,
-            None => false,
-        }
+    pub(crate) fn has(&self, head: Head) -> bool {
+        self.outcome
+            .get(usize::from(head.target))
+            .is_some_and(|value| u16::from(*value) == head.value)
     }
 }
 
-// Whether a log shows a state with the head's value.
-fn came_with(log: &[Observation], state: &State, head: Head) -> bool {
-    for seen in log {
-        if seen.state == *state && seen.has(head) {
-            return true;
+// The cells of a row: the state in 0 to 7, the outcome in 8 to 11.
+impl From<&Observation> for Row {
+    fn from(seen: &Observation) -> Row {
+        let mut cells = [0u8; 12];
+        cells[..8].copy_from_slice(&seen.state);
+        cells[8..].copy_from_slice(&seen.outcome);
+        Row {
+            class: 1,
+            day: 0,
+            cells,
         }
     }
-    false
-}
-
-// Whether a state that the log shows is against the head.
-pub(crate) fn is_against(log: &[Observation], state: &State, head: Head, sense: Sense) -> bool {
-    match sense {
-        Sense::Can => !came_with(log, state, head),
-        Sense::Cannot => came_with(log, state, head),
-    }
-}
-
-// Whether a log shows a state.
-pub(crate) fn shows(log: &[Observation], state: &State) -> bool {
-    for seen in log {
-        if seen.state == *state {
-            return true;
-        }
-    }
-    false
 }

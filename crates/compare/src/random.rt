@@ -21,4 +21,10 @@ impl Random {
         }
         ((self.last >> 16) % u32::from(bound)) as u8
     }
+
+    // One of the items, of which there are few; none where there are none.
+    pub(crate) fn pick<'a, T>(&mut self, items: &'a [T]) -> Option<&'a T> {
+        let bound = u8::try_from(items.len()).unwrap_or(u8::MAX);
+        items.get(usize::from(self.below(bound)))
+    }
 }

@@ -1,25 +1,19 @@
 // How many answers agree.
+use model::Sense;
+use std::fmt;
 
-#[derive(Clone, Copy)]
+#[derive(Clone, Copy, Default)]
 pub(crate) struct Score {
-    pub(crate) asked: u32,
-    pub(crate) agreeing: u32,
+    asked: usize,
+    agreeing: usize,
     // the rules, or the percentages, that the definitions give, added up
-    pub(crate) total: u32,
+    total: usize,
 }
 
 impl Score {
-    fn zero() -> Score {
-        Score {
-            asked: 0,
-            agreeing: 0,
-            total: 0,
-        }
-    }
-
-    pub(crate) fn count(&mut self, agrees: bool, amount: u32) {
+    pub(crate) fn count(&mut self, agrees: bool, amount: usize) {
         self.asked = self.asked.saturating_add(1);
-        self.agreeing = self.agreeing.saturating_add(u32::from(agrees));
+        self.agreeing = self.agreeing.saturating_add(usize::from(agrees));
         self.total = self.total.saturating_add(amount);
     }
 
@@ -32,8 +26,19 @@ impl Score {
     }
 }
 
+impl fmt::Display for Score {
+    fn fmt<W: fmt::Write>(&self, f: &mut fmt::Formatter<W>) -> fmt::Result {
+        let Score {
+            asked,
+            agreeing,
+            total,
+        } = self;
+        write!(f, "{asked} asked, {agreeing} agree, {total}")
+    }
+}
+
 // The scores of a condition kind.
-#[derive(Clone, Copy)]
+#[derive(Clone, Copy, Default)]
 pub(crate) struct Scores {
     pub(crate) can: Score,
     pub(crate) cannot: Score,
@@ -41,11 +46,11 @@ pub(crate) struct Scores {
 }
 
 impl Scores {
-    pub(crate) fn zero() -> Scores {
-        Scores {
-            can: Score::zero(),
-            cannot: Score::zero(),
-            forecast: Score::zero(),
+    // The score of the listings of a sense.
+    pub(crate) fn of(&mut self, sense: Sense) -> &mut Score {
+        match sense {
+            Sense::Can => &mut self.can,
+            Sense::Cannot => &mut self.cannot,
         }
     }
 

@@ -6,6 +6,10 @@ use Rattle.std.proofs.lemmas.List.{set-get_or}
 use Rattle.search.specs.Surveys.{Unseen, SeenAt, marked}
 use Rattle.search.specs.declared.survey.Seen.{Seen}
 
+-- what the checker reads beyond a survey's end
+abbrev pub no_seen : Seen
+no_seen = record { state = []; with_head = false }
+
 decided_no : {P : Type 0} (b : Bool) → Decides b P → (P → ⊥) → b ≡ false
 decided_no true d never = absurd (never (d.0 refl))
 decided_no false d never = refl

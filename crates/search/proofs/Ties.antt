@@ -1,7 +1,7 @@
 -- What a search computes over a survey is what the definitions say of the observations. Assumes nothing.
-use Rattle.std.proofs.Common.{◌≡◌, ℕ, ◌<◌, ◌≤◌, Bool, true, false, not, ◌&&◌, List, [], ◌∷◌, map, length, None, Decides, filter, sym, refl, ap, ◌∙◌, subst}
+use Rattle.std.proofs.Common.{◌≡◌, ℕ, ◌<◌, ◌≤◌, Bool, true, false, not, List, map, length, None, Decides, filter, sym, refl, ap, ◌∙◌, subst}
 use mathlib.Core.Path.{fun_ext}
-use Rattle.std.specs.List.{list_all, ContainsAt as Has, AllByRecursion}
+use Rattle.std.specs.List.{ContainsAt as Has, AllByRecursion}
 use Rattle.std.proofs.lemmas.List.{length-map}
 use Rattle.std.proofs.lemmas.List.Sums.{length-filter}
 use Rattle.std.proofs.lemmas.Bool.Decides.{same_from_decides, Decides-at, Decides-and, Decides-not, Decides-like}
@@ -25,7 +25,8 @@ use Rattle.model.proofs.Members.{has_map, has_kept, kept_has}
 use Rattle.model.proofs.Passing.{all_decides}
 use Rattle.model.proofs.Ties.{matches_decides, consistent_decides, shown_from_against}
 use Rattle.model.proofs.Weighing.{weighs}
-use Rattle.search.specs.Surveys.{against, clear, best, surveyed}
+use Rattle.search.specs.Opposing.{states_against, clear, best}
+use Rattle.search.specs.Surveys.{against, surveyed}
 use Rattle.search.specs.Weights.{counts, heaviest, weight as seen_weight}
 use Rattle.search.specs.declared.survey.Seen.{Seen}
 use Rattle.search.proofs.Padding.{matches_front}
@@ -39,11 +40,6 @@ not_not false = refl
 beside : (sense : Sense) (e : Seen) → not (against sense e) ≡ against (opposite sense) e
 beside Can e = not_not e.with_head
 beside Cannot e = refl
-
--- a rule is clear where it passes at every entry
-clear_all : (m : Meaning) (ns : List ℕ) (sense : Sense) (b : List ℕ) (seen : List Seen) → clear m ns sense seen b ≡ list_all (λ e. not (against sense e && matches m ns b e.state)) seen
-clear_all m ns sense b [] = refl
-clear_all m ns sense b (e ∷ es) = ap (λ (t : Bool). not (against sense e && matches m ns b e.state) && t) (clear_all m ns sense b es)
 
 module _ (m : Meaning) (s : Shape) (t v : ℕ) (rows : List Row) (few : length (features s) ≤ 8) (twelve : AllByRecursion Twelve rows) (known : t < length (targets s)) where
   abbrev ns : List ℕ
@@ -62,23 +58,20 @@ module _ (m : Meaning) (s : Shape) (t v : ℕ) (rows : List Row) (few : length (
       (matches_decides m ns b (front s t v rows e))
 
   module _ (sense : Sense) where
-    -- a rule is clear of the entries exactly when it is consistent with the observations
-    pub clear_consistent : (b : List ℕ) → clear m ns sense seen b ≡ consistent m ns os t v sense b
+    -- the states against are those of the entries against
+    pub clear_consistent : (b : List ℕ) → clear m ns (states_against sense seen) b ≡ consistent m ns os t v sense b
     clear_consistent b =
-        let none_matches : Seen → Bool = λ e. not (against sense e && matches m ns b e.state) in
-        clear_all m ns sense b seen
-        ∙ same_from_decides (list_all none_matches seen) (consistent m ns os t v sense b)
-        (Decides-like (list_all none_matches seen)
+        same_from_decides (clear m ns (states_against sense seen) b) (consistent m ns os t v sense b)
+        (Decides-like (clear m ns (states_against sense seen) b)
         (λ none st opposed hit.
         let e = seen_from_shown s t v rows few twelve known st (shown_from_against os t v sense st opposed) in
-        none e.0 e.1 (
-          (against_seen s t v rows few twelve known sense e.0 e.1).1 (subst (Against os t v sense) (sym e.2) opposed),
-          (matches_seen b e.0).1 (subst (Matches m ns b) (sym e.2) hit),
-        ))
-        (λ sound e has both. sound (front s t v rows e) ((against_seen s t v rows few twelve known sense e has).0 both.0) ((matches_seen b e).0 both.1))
-        (all_decides none_matches (λ e. (against sense e ≡ true) × (matches m ns b e.state ≡ true) → ⊥)
-        (λ e. Decides-not (against sense e && matches m ns b e.state) (Decides-and (against sense e) (matches m ns b e.state) (λ h. h, λ h. h) (λ h. h, λ h. h)))
-        seen))
+        let kept = has_kept (against sense) seen e.0 e.1 ((against_seen s t v rows few twelve known sense e.0 e.1).1 (subst (Against os t v sense) (sym e.2) opposed)) in
+        none e.0.state (has_map (λ e. e.state) (filter (against sense) seen) e.0 kept) ((matches_seen b e.0).1 (subst (Matches m ns b) (sym e.2) hit)))
+        (λ sound st has hit.
+        let e = among_map (λ e. e.state) (filter (against sense) seen) st has in
+        let kept = kept_has (against sense) seen e.0 e.1 in
+        sound (front s t v rows e.0) ((against_seen s t v rows few twelve known sense e.0 kept.0).0 kept.1) ((matches_seen b e.0).0 (ap (matches m ns b) e.2 ∙ hit)))
+        (all_decides (λ st. not (matches m ns b st)) (λ st. matches m ns b st ≡ true → ⊥) (λ st. Decides-not (matches m ns b st) (λ h. h, λ h. h)) (states_against sense seen)))
         (consistent_decides m ns os t v sense b)
 
     -- the states that a rule's weight counts
@@ -113,11 +106,11 @@ module _ (m : Meaning) (s : Shape) (t v : ℕ) (rows : List Row) (few : length (
         ∙ length-filter (counts m ns sense b) seen)
 
     module _ (laws : Laws m) (taken : Taken m ns) where
-      pub found_listing : filter (best m ns sense seen) (bodies m ns) ≡ listing m ns os t v sense
-      found_listing = listing_tight m laws ns taken os t v sense (clear m ns sense seen) clear_consistent
+      pub found_listing : filter (best m ns (states_against sense seen)) (bodies m ns) ≡ listing m ns os t v sense
+      found_listing = listing_tight m laws ns taken os t v sense (clear m ns (states_against sense seen)) clear_consistent
 
-      pub heaviest_best : (st : List ℕ) → heaviest m ns sense seen st None (filter (best m ns sense seen) (bodies m ns)) ≡ best_weight m ns os t v sense st
+      pub heaviest_best : (st : List ℕ) → heaviest m ns sense seen st None (filter (best m ns (states_against sense seen)) (bodies m ns)) ≡ best_weight m ns os t v sense st
       heaviest_best st =
-          greatest_folded (λ b. matches m ns b st) (seen_weight m ns sense seen) (filter (best m ns sense seen) (bodies m ns))
-          ∙ ap (λ (w : List ℕ → ℕ). greatest (map w (filter (λ b. matches m ns b st) (filter (best m ns sense seen) (bodies m ns))))) (fun_ext weight_same)
+          greatest_folded (λ b. matches m ns b st) (seen_weight m ns sense seen) (filter (best m ns (states_against sense seen)) (bodies m ns))
+          ∙ ap (λ (w : List ℕ → ℕ). greatest (map w (filter (λ b. matches m ns b st) (filter (best m ns (states_against sense seen)) (bodies m ns))))) (fun_ext weight_same)
           ∙ ap (λ (rules : List (List ℕ)). greatest (map (weight m ns os t v sense) (filter (λ b. matches m ns b st) rules))) found_listing

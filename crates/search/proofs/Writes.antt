@@ -26,8 +26,12 @@ module _ (all ahead : List (List ℕ)) (old out p : List ℕ) (at k : ℕ) (eigh
         ∙ drop-drop 8 at old;
   }
 
-pub writing_none : (all : List (List ℕ)) (old : List ℕ) → Writing all all old old 0
-writing_none all old = record { count = omega arith; front = refl; after = refl }
+pub writing_none : (all ahead : List (List ℕ)) (old : List ℕ) → ahead ≡ all → Writing all ahead old old 0
+writing_none all ahead old whole = record { count = let same = ap length whole in omega arith; front = ap row whole; after = refl }
+
+-- there is room for one rule more
+pub room_left : (all ahead : List (List ℕ)) (p old out : List ℕ) (at : ℕ) → Writing all (p ∷ ahead) old out at → 8 * length all ≤ length old → length out ≡ length old → at + 8 ≤ length out
+room_left all ahead p old out at so_far room same = let n = so_far.count in omega arith
 
 pub writing_all : (all : List (List ℕ)) (old out : List ℕ) (at : ℕ) → Writing all [] old out at → out ≡ row all ++ drop (8 * length all) old
 writing_all all old out at done =

@@ -1,4 +1,6 @@
 pub mod Found
+pub mod Misses
+pub mod Opposing
 pub mod Rest
 pub mod Scans
 pub mod Surveys

@@ -1,5 +1,5 @@
 -- The bodies from one on, in rising order: what a search has still to look at. Assumes nothing.
-use Rattle.std.specs.Prelude.{◌≡◌, ℕ, ◌+◌, ◌-◌, Bool, cond, List, [], ◌∷◌, ◌++◌, map, length, replicate}
+use Rattle.std.specs.Prelude.{◌≡◌, ℕ, ◌+◌, ◌-◌, ◌<◌, ◌≤◌, Bool, true, false, cond, List, [], ◌∷◌, ◌++◌, map, length, drop, replicate, ◌≢◌, slice_index}
 use Rattle.std.specs.List.{range_with_len, flat_map}
 use Rattle.model.specs.Kinds.{Meaning}
 use Rattle.model.specs.Bodies.{Body, bodies}
@@ -19,4 +19,21 @@ module _ (m : Meaning) where
   pub record Advanced (ns before after : List ℕ) (more : Bool) : Type 0 where
     pub body : Body m ns after
     pub next : rest ns before ≡ before ∷ cond more (rest ns after) []
-    pub over : more ≡ Bool.false → after ≡ replicate (length ns) 0
+    pub over : more ≡ false → after ≡ replicate (length ns) 0
+
+-- the last condition of a body that is not open
+pub record Last (b : List ℕ) (i : ℕ) : Type 0 where
+  pub within : i < length b
+  pub closed : slice_index b i ≢ 0
+  pub open_after : (k : ℕ) → i < k → k < length b → slice_index b k ≡ 0
+
+-- how many conditions a body has up to the last one that is not open
+pub record Depth (b : List ℕ) (d : ℕ) : Type 0 where
+  pub within : d ≤ length b
+  pub zeros : drop d b ≡ replicate (length b - d) 0
+  pub last : (i : ℕ) → i + 1 ≡ d → slice_index b i ≢ 0
+
+-- how many conditions of a body a search steps on in: from a clear one only those up to its depth
+abbrev pub Reach : Bool → List ℕ → ℕ → Type 0
+Reach true b d = Depth b d
+Reach false b d = d ≡ length b

@@ -1,10 +1,7 @@
--- Consistency and optimality over a survey: the different states shown, each with whether it came with the head.
--- Assumes nothing.
-use Rattle.std.specs.Prelude.{◌≡◌, ℕ, ◌+◌, ◌<◌, Bool, true, cond, not, ◌&&◌, ◌||◌, List, [], ◌∷◌, length, take, fold, ◌==◌, ◌≢◌, slice_index, slice_index_or, slice_set}
+-- A survey: the different states shown, each with whether it came with the head. Assumes nothing.
+use Rattle.std.specs.Prelude.{◌≡◌, ℕ, ◌+◌, ◌<◌, Bool, cond, not, ◌||◌, List, [], ◌∷◌, length, take, fold, ◌==◌, ◌≢◌, slice_index, slice_index_or}
 use Rattle.std.specs.Str.{bytes_eq}
-use Rattle.model.specs.Kinds.{Meaning}
 use Rattle.model.specs.Memory.{place}
-use Rattle.model.specs.Rules.{matches, each_below}
 use Rattle.model.specs.Shapes.{features}
 use Rattle.model.specs.declared.row.Row.{Row}
 use Rattle.model.specs.declared.sense.Sense.{Sense}
@@ -35,25 +32,3 @@ marked (s ∷ ss) v w = cond (bytes_eq s.state v) (record { state = s.state; wit
 -- the different states of some rows, in the order of their first rows
 abbrev pub surveyed : Shape → ℕ → ℕ → List Row → List Seen
 surveyed s target value rows = fold (λ seen r. marked seen (place (take (length (features s)) r.cells)) (slice_index r.cells (8 + target) == value)) [] rows
-
-module _ (m : Meaning) (ns : List ℕ) (sense : Sense) where
-  -- a rule matches no state against
-  abbrev pub clear : List Seen → List ℕ → Bool
-  clear [] b = true
-  clear (s ∷ ss) b = not (against sense s && matches m ns b s.state) && clear ss b
-
-  -- code c is another, weaker condition on feature i that leaves the rule clear
-  abbrev pub loose : List Seen → List ℕ → ℕ → ℕ → Bool
-  loose ss b i c = (not (c == slice_index b i) && m.weaker (slice_index ns i) c (slice_index b i)) && clear ss (slice_set b i c)
-
-  -- the condition on feature i cannot be weakened
-  abbrev pub tight_at : List Seen → List ℕ → ℕ → Bool
-  tight_at ss b i = each_below (m.conditions (slice_index ns i)) (λ c. not (loose ss b i c))
-
-  -- no single condition can be weakened
-  abbrev pub tight : List Seen → List ℕ → Bool
-  tight ss b = each_below (length ns) (tight_at ss b)
-
-  -- a rule is clear, and no single condition of it can be weakened
-  abbrev pub best : List Seen → List ℕ → Bool
-  best ss b = clear ss b && tight ss b

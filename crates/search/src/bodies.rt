@@ -1,26 +1,28 @@
-// The bodies of a shape, in rising order of their codes, feature 0 first.
-ghost use Rattle.model.specs.Bodies.{Body};
-ghost use Rattle.search.specs.Rest.{Advanced};
+// The bodies of rules over features of some sizes, where they are few enough to be looked at one after another.
+ghost use Rattle.std.proofs.Props.{props};
+ghost use Rattle.model.specs.Limits.{Listable};
+ghost use Rattle.model.specs.Sizes.{Lawful};
 
 use model::Kind;
+use std::marker::PhantomData;
 
-// The next body in rising order; after the last one false, with every condition open again.
-pub(crate) fn advance<K: Kind>(sizes: &[u8], body: &mut [u8]) -> bool
-    requires { Body K.Kind.meaning sizes.now body.old }
-    ensures { Advanced K.Kind.meaning sizes.now body.old body.new result }
-{
-    if sizes.is_empty() {
-        return false;
-    }
-    let code = body[0];
-    if advance::<K>(&sizes[1..], &mut body[1..]) {
-        return true;
-    }
-    if code + 1 < K::conditions(sizes[0]) {
-        body[0] = code + 1;
-        true
-    } else {
-        body[0] = 0;
-        false
-    }
+// A code for each feature, 0 beyond the last.
+pub(crate) type Codes = [u8; 8];
+
+// A value for each feature, 0 beyond the last.
+pub(crate) type State = [u8; 8];
+
+// The sizes of the features, known to be sizes that can be listed.
+#[derive(Drop)]
+pub(crate) struct Bodies<'a, K: Kind> {
+    sizes: &'a [u8],
+    kind: PhantomData<&'a K>,
+    ghost lawful: { Lawful 8 sizes.now } by { Prim.hlevel props },
+    ghost listable: { Listable K.Kind.meaning sizes.now } by { Prim.hlevel props },
 }
+
+mod limits;
+mod matching;
+mod near;
+mod optimal;
+mod order;

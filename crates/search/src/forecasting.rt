@@ -1,14 +1,17 @@
 // Forecasting an outcome for a state.
-ghost use Rattle.std.specs.Prelude.{◌≡◌, ◌≤◌};
-ghost use Rattle.model.specs.Forecasts.{percentage, Forecasted};
+ghost use Rattle.std.specs.Prelude.{◌≡◌, ◌≤◌, None};
+ghost use Rattle.std.specs.Option.{unwrap_or};
 ghost use Rattle.model.specs.Foretold.{Foretold};
+ghost use Rattle.model.specs.Forecasts.{percentage, Forecasted};
 ghost use Rattle.model.specs.declared.sense.Sense.TheVariants.{Can, Cannot};
 ghost use Rattle.search.specs.Found.{best_matching};
+ghost use Rattle.search.specs.Opposing.{states_against};
+ghost use Rattle.search.specs.Walks.{places};
+ghost use Rattle.search.specs.Weights.{heaviest};
 
+use super::bodies::{Bodies, State};
 use super::heads::known_head;
-use super::limits::within_limits;
 use super::survey::Survey;
-use super::weigh::best_weight;
 use model::{Head, Kind, Log, Refusal, Sense, Shape};
 
 // The share of the weight that is for the head, in whole percent rounded down; 50 where there is no weight at all.
@@ -23,6 +26,19 @@ fn share(pro: u32, contra: u32) -> u32
     100 * pro / (pro + contra)
 }
 
+impl<'a, K: Kind> Bodies<'a, K> {
+    // The best weight of the rules of one sense at a state; 0 where none matches.
+    fn weight_for(&self, survey: &mut Survey, sense: Sense, state: &State) -> u32
+        ensures same { survey.new.seen.items ≡ survey.old.seen.items }
+        ensures value { result ≡ unwrap_or (heaviest K.Kind.meaning self.now.sizes.now sense survey.old.seen.items state.now None (places K.Kind.meaning self.now.sizes.now (states_against sense survey.old.seen.items))) 0 }
+        ensures bound { result ≤ 65535 }
+    {
+        survey.oppose(sense);
+        self.best_weight(survey.seen(), survey.opposed(), sense, state)
+            .unwrap_or(0)
+    }
+}
+
 // For, against and the percentage of a head at a state.
 pub fn forecast<K: Kind, L: Log>(
     shape: &Shape,
@@ -34,15 +50,11 @@ pub fn forecast<K: Kind, L: Log>(
     ensures answer { Forecasted K.Kind.meaning shape.now (L.Log.rows log.now) head state.now (best_matching K.Kind.meaning shape.now (L.Log.rows log.now) head Can state.now) (best_matching K.Kind.meaning shape.now (L.Log.rows log.now) head Cannot state.now) result }
     ensures told { Foretold K.Kind.meaning shape.now (L.Log.rows log.now) head state.now result }
 {
-    let (target, value) = known_head(shape, head)?;
-    let sizes = shape.feature_sizes();
-    let Some(known) = shape.state(state) else {
-        return Err(Refusal::State);
-    };
-    within_limits::<K>(sizes)?;
-    survey.take(shape, log, target, value)?;
-    let seen = survey.seen();
-    let pro = best_weight::<K>(sizes, seen, Sense::Can, &known).unwrap_or(0);
-    let contra = best_weight::<K>(sizes, seen, Sense::Cannot, &known).unwrap_or(0);
+    known_head(shape, head)?;
+    let known = shape.state(state).ok_or(Refusal::State)?;
+    let bodies = Bodies::<K>::new(shape)?;
+    survey.take(shape, log, head)?;
+    let pro = bodies.weight_for(survey, Sense::Can, &known);
+    let contra = bodies.weight_for(survey, Sense::Cannot, &known);
     Ok((pro, contra, share(pro, contra)))
 }

@@ -3,9 +3,8 @@ ghost use Rattle.model.specs.Listed.{Listed};
 ghost use Rattle.model.specs.Wholes.{ListedWhole, Whole};
 ghost use Rattle.search.specs.Found.{found};
 
+use super::bodies::Bodies;
 use super::heads::known_head;
-use super::limits::within_limits;
-use super::rules::{count, write};
 use super::survey::Survey;
 use model::{Head, Kind, Log, Refusal, Sense, Shape};
 
@@ -22,15 +21,15 @@ pub fn list<K: Kind, L: Log>(
     ensures listing { ListedWhole K.Kind.meaning shape.now (L.Log.rows log.now) head sense rules.old rules.new result }
     ensures whole { Whole K.Kind.meaning shape.now (L.Log.rows log.now) head sense rules.new result }
 {
-    let (target, value) = known_head(shape, head)?;
-    let sizes = shape.feature_sizes();
-    within_limits::<K>(sizes)?;
-    survey.take(shape, log, target, value)?;
-    let seen = survey.seen();
-    let many = count::<K>(sizes, seen, sense);
+    known_head(shape, head)?;
+    let bodies = Bodies::<K>::new(shape)?;
+    survey.take(shape, log, head)?;
+    survey.oppose(sense);
+    let opposed = survey.opposed();
+    let many = bodies.count(opposed);
     if many as usize > rules.len() / 8 {
         return Err(Refusal::Rules(many));
     }
-    write::<K>(sizes, seen, sense, rules);
+    bodies.write(opposed, rules);
     Ok(many)
 }

@@ -1,9 +1,7 @@
 // Images, and the packed log over bytes of every kind.
-use super::samples::uneven;
-use logs::{PackedLog, check as check_image, format};
+use super::samples::{image, uneven};
+use logs::{PackedLog, check, format};
 use model::{Intake, Log, Refusal, Row};
-use std::alloc::Global;
-use std::process::Abort;
 use std::test::Fail;
 
 const ROW: Row = Row {
@@ -60,36 +58,38 @@ fn lengths_of_an_image(rt: HostRuntime) -> Result<(), Fail> {
     Ok(())
 }
 
-// Whether a broken byte is seen.
-fn seen(rt: &impl Abort, heap: Global, at: usize, value: u8) -> Result<(), Fail> {
-    let mut bytes = vec![in heap; 0; 48]?;
-    format(&mut bytes, &uneven()?)?;
-    if let Some(byte) = bytes.get_mut(at) {
-        *byte = value;
+// A place in the header, and a value that breaks it.
+const BROKEN: [(usize, u8); 9] = [
+    (2, b'X'),
+    (4, 2),
+    (5, 9),
+    (6, 0),
+    (7, 1),
+    (9, 2),
+    (16, 9),
+    (18, 2),
+    (31, 1),
+];
+
+#[test]
+fn broken_headers(rt: HostRuntime) -> Result<(), Fail> {
+    for (at, value) in BROKEN {
+        let mut bytes = image(rt.alloc(), &uneven()?, 48)?;
+        if let Some(byte) = bytes.get_mut(at) {
+            *byte = value;
+        }
+        assert!(rt;
+            matches!(check(&bytes), Err(Refusal::Image)),
+            "{value} at {at}"
+        );
     }
-    assert!(rt; matches!(check_image(&bytes), Err(Refusal::Image)));
     Ok(())
 }
 
 #[test]
-fn broken_headers(rt: HostRuntime) -> Result<(), Fail> {
-    let heap = rt.alloc();
-    seen(&rt, heap, 2, b'X')?;
-    seen(&rt, heap, 4, 2)?;
-    seen(&rt, heap, 5, 9)?;
-    seen(&rt, heap, 6, 0)?;
-    seen(&rt, heap, 7, 1)?;
-    seen(&rt, heap, 9, 2)?;
-    seen(&rt, heap, 16, 9)?;
-    seen(&rt, heap, 18, 2)?;
-    seen(&rt, heap, 31, 1)
-}
-
-#[test]
 fn a_checked_image_has_its_shape(rt: HostRuntime) -> Result<(), Fail> {
-    let mut bytes = vec![in rt.alloc(); 0; 48]?;
-    format(&mut bytes, &uneven()?)?;
-    let s = check_image(&bytes)?;
+    let bytes = image(rt.alloc(), &uneven()?, 48)?;
+    let s = check(&bytes)?;
     assert_eq!(rt;
         (s.feature_count(), s.feature_size(0), s.feature_size(1)),
         (2, 2, 3)

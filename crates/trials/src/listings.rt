@@ -1,29 +1,14 @@
 // Listings and forecasts at the edges, on a book.
-use super::samples::binary;
+use super::samples::{ONE, binary, new_book, row};
 use book::Book;
-use logs::{PackedLog, format};
-use model::{Exact, Head, Intake, Refusal, Row, Sense, Stray};
-use search::Survey;
-use std::alloc::Global;
+use logs::PackedLog;
+use model::{Exact, Head, Intake, Refusal, Sense, Stray};
 use std::process::Abort;
 use std::test::Fail;
 
-const ONE: Head = Head {
-    target: 0,
-    value: 1,
-};
-
-// A new book of two features and a target, of two values each.
-fn new_book(heap: Global) -> Result<Book<Exact, PackedLog>, Fail> {
-    let shape = binary()?;
-    let mut bytes = vec![in heap; 0; 128]?;
-    format(&mut bytes, &shape)?;
-    Ok(Book::new(shape, PackedLog::new(bytes), Survey::new(heap)?))
-}
-
 // The book with the rows (0,0) with 0, (1,0) with 0 and (1,1) with 1.
-fn example(rt: &impl Abort, heap: Global) -> Result<Book<Exact, PackedLog>, Fail> {
-    let mut book = new_book(heap)?;
+fn example(rt: &(impl Abort + AllocGlobal)) -> Result<Book<Exact, PackedLog>, Fail> {
+    let mut book = new_book::<Exact>(rt.alloc(), binary()?, 128)?;
     assert_eq!(rt; book.note(1, 0, &[0, 0, 0]), Ok(1));
     assert_eq!(rt; book.note(1, 0, &[1, 0, 0]), Ok(2));
     assert_eq!(rt; book.note(1, 0, &[1, 1, 1]), Ok(3));
@@ -32,7 +17,7 @@ fn example(rt: &impl Abort, heap: Global) -> Result<Book<Exact, PackedLog>, Fail
 
 #[test]
 fn two_rules_in_sixteen_bytes(rt: HostRuntime) -> Result<(), Fail> {
-    let mut book = example(&rt, rt.alloc())?;
+    let mut book = example(&rt)?;
     let mut rules = [7u8; 17];
     assert_eq!(rt; book.list(ONE, Sense::Cannot, &mut rules), Ok(2));
     assert_eq!(rt;
@@ -50,7 +35,7 @@ fn two_rules_in_sixteen_bytes(rt: HostRuntime) -> Result<(), Fail> {
 
 #[test]
 fn two_rules_fill_sixteen_bytes(rt: HostRuntime) -> Result<(), Fail> {
-    let mut book = example(&rt, rt.alloc())?;
+    let mut book = example(&rt)?;
     let mut enough = [7u8; 16];
     assert_eq!(rt; book.list(ONE, Sense::Cannot, &mut enough), Ok(2));
     Ok(())
@@ -58,7 +43,7 @@ fn two_rules_fill_sixteen_bytes(rt: HostRuntime) -> Result<(), Fail> {
 
 #[test]
 fn repeated_rows_count_once(rt: HostRuntime) -> Result<(), Fail> {
-    let mut book = example(&rt, rt.alloc())?;
+    let mut book = example(&rt)?;
     assert_eq!(rt; book.forecast(ONE, &[1, 0]), Ok((0, 2, 0)));
     assert_eq!(rt; book.forecast(ONE, &[0, 1]), Ok((1, 1, 50)));
     assert_eq!(rt; book.note(1, 0, &[1, 1, 1]), Ok(4));
@@ -69,7 +54,7 @@ fn repeated_rows_count_once(rt: HostRuntime) -> Result<(), Fail> {
 
 #[test]
 fn a_state_with_both_values_is_not_against(rt: HostRuntime) -> Result<(), Fail> {
-    let mut book = new_book(rt.alloc())?;
+    let mut book = new_book::<Exact>(rt.alloc(), binary()?, 128)?;
     book.note(1, 0, &[0, 0, 0])?;
     book.note(1, 0, &[0, 0, 1])?;
     let mut rules = [7u8; 8];
@@ -81,13 +66,8 @@ fn a_state_with_both_values_is_not_against(rt: HostRuntime) -> Result<(), Fail> 
 
 #[test]
 fn the_first_stray_cell(rt: HostRuntime) -> Result<(), Fail> {
-    let mut book = example(&rt, rt.alloc())?;
-    let stray = Row {
-        class: 1,
-        day: 0,
-        cells: [0, 0, 9, 0, 0, 0, 0, 0, 7, 0, 0, 0],
-    };
-    book.log.append(stray)?;
+    let mut book = example(&rt)?;
+    book.log.append(row([0, 0, 9, 0, 0, 0, 0, 0, 7, 0, 0, 0]))?;
     let found = Err(Refusal::Stray(Stray { row: 3, cell: 8 }));
     let mut rules: [u8; 0] = [];
     assert_eq!(rt; book.list(ONE, Sense::Cannot, &mut rules), found);
@@ -109,13 +89,8 @@ fn the_first_stray_cell(rt: HostRuntime) -> Result<(), Fail> {
 // The cell 1 of a feature, before the cell 8 of the target; and a state of three values for two features before both.
 #[test]
 fn a_stray_feature_cell(rt: HostRuntime) -> Result<(), Fail> {
-    let mut book = new_book(rt.alloc())?;
-    let stray = Row {
-        class: 1,
-        day: 0,
-        cells: [0, 7, 0, 0, 0, 0, 0, 0, 7, 0, 0, 0],
-    };
-    book.log.append(stray)?;
+    let mut book = new_book::<Exact>(rt.alloc(), binary()?, 128)?;
+    book.log.append(row([0, 7, 0, 0, 0, 0, 0, 0, 7, 0, 0, 0]))?;
     let found = Refusal::Stray(Stray { row: 0, cell: 1 });
     let mut rules = [7u8; 8];
     assert_eq!(rt; book.list(ONE, Sense::Can, &mut rules), Err(found));

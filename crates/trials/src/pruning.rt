@@ -1,22 +1,13 @@
-// The search that prunes, over the same rows as the listings at the edges.
-use super::samples::binary;
-use logs::{PackedLog, format};
-use model::{Exact, Head, Intake, Refusal, Row, Sense};
-use pruned::{Survey, forecast, list};
+// The search asked without a book, over the same rows as the listings at the edges.
+use super::samples::{ONE, binary, image, row};
+use logs::PackedLog;
+use model::{Exact, Intake, Refusal, Row, Sense};
+use search::{Survey, forecast, list};
 use std::test::Fail;
 
-const ONE: Head = Head {
-    target: 0,
-    value: 1,
-};
-
 // The row of a state of two values and an outcome of one.
-fn row(first: u8, second: u8, outcome: u8) -> Row {
-    Row {
-        class: 1,
-        day: 0,
-        cells: [first, second, 0, 0, 0, 0, 0, 0, outcome, 0, 0, 0],
-    }
+fn seen(first: u8, second: u8, outcome: u8) -> Row {
+    row([first, second, 0, 0, 0, 0, 0, 0, outcome, 0, 0, 0])
 }
 
 // The rows (0,0) with 0, (1,0) with 0 and (1,1) with 1: the outcome is 1 where the second value is, and cannot be where
@@ -24,12 +15,10 @@ fn row(first: u8, second: u8, outcome: u8) -> Row {
 #[test]
 fn lists_what_the_rows_leave_open(rt: HostRuntime) -> Result<(), Fail> {
     let shape = binary()?;
-    let mut bytes = vec![in rt.alloc(); 0; 128]?;
-    format(&mut bytes, &shape)?;
-    let mut log = PackedLog::new(bytes);
-    log.append(row(0, 0, 0))?;
-    log.append(row(1, 0, 0))?;
-    log.append(row(1, 1, 1))?;
+    let mut log = PackedLog::new(image(rt.alloc(), &shape, 128)?);
+    log.append(seen(0, 0, 0))?;
+    log.append(seen(1, 0, 0))?;
+    log.append(seen(1, 1, 1))?;
     let mut survey = Survey::new(rt.alloc())?;
     let mut can = [7u8; 9];
     assert_eq!(rt;

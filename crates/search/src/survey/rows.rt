@@ -6,6 +6,7 @@ ghost use Rattle.model.specs.Shapes.{features};
 ghost use Rattle.model.specs.Strays.{Astray};
 ghost use Rattle.search.specs.Scans.{StrayIn};
 
+use super::super::bodies::State;
 use model::{Log, Shape, Stray};
 
 // The cells of a row, read once.
@@ -14,8 +15,8 @@ pub(crate) fn cells_of<L: Log>(log: &L, row: usize) -> [u8; 12]
     ensures { result ≡ (slice_index_or (L.Log.rows log.now) row no_row).cells }
 {
     let mut cells = [0u8; 12];
-    'cells: for cell in 0..12 {
-        cells[cell] = log.cell(row, cell);
+    'cells: for (cell, value) in cells.iter_mut().enumerate() {
+        *value = log.cell(row, cell);
     }
     cells
 }
@@ -25,9 +26,9 @@ pub(crate) fn scan(shape: &Shape, row: usize, cells: &[u8; 12]) -> Result<(), St
     requires { row < 65535 }
     ensures { MatchResult result (λ _. (j : ℕ) → j < 12 → Astray shape.now cells.now j → ⊥) (λ e. StrayIn shape.now row cells.now e) }
 {
-    'cells: for cell in 0..12usize {
+    'cells: for (cell, value) in cells.iter().enumerate() {
         let size = shape.cell_size(cell);
-        if size > 0 && cells[cell] >= size {
+        if size > 0 && *value >= size {
             return Err(Stray {
                 row: row as u16,
                 cell: cell as u8,
@@ -38,7 +39,7 @@ pub(crate) fn scan(shape: &Shape, row: usize, cells: &[u8; 12]) -> Result<(), St
 }
 
 // The feature cells of a row as a state, with 0 beyond the shape.
-pub(crate) fn state_of(shape: &Shape, cells: &[u8; 12]) -> [u8; 8]
+pub(crate) fn state_of(shape: &Shape, cells: &[u8; 12]) -> State
     ensures { result ≡ place (take (length (features shape.now)) cells.now) }
 {
     let mut state = [0u8; 8];

@@ -1,24 +1,21 @@
 // Taking the survey of a log.
 ghost use Rattle.std.specs.Prelude.{◌≡◌, ◌+◌, ◌<◌, ◌≤◌, [], length, IfOk, vec_len, MatchOption, MatchResult};
 ghost use Rattle.std.specs.List.{AllByRecursion};
+ghost use Rattle.model.specs.Heads.{KnownHead};
 ghost use Rattle.model.specs.Strays.{LawfulRow, FirstStray};
 ghost use Rattle.search.specs.Surveys.{marked, surveyed, Unseen, SeenAt};
 
+use super::super::bodies::State;
 use super::rows::{cells_of, scan, state_of};
 use super::{Seen, Survey};
-use model::{Log, Shape, Stray};
+use model::{Head, Log, Shape, Stray};
 use std::alloc::{AllocError, Global};
 
 // Where a state stands among those seen.
-fn find(seen: &[Seen], state: &[u8; 8]) -> Option<usize>
+fn find(seen: &[Seen], state: &State) -> Option<usize>
     ensures { MatchOption result (Unseen seen.now state.now (length seen.now)) (SeenAt seen.now state.now) }
 {
-    'seen: for (i, s) in seen.iter().enumerate() {
-        if s.state == *state {
-            return Some(i);
-        }
-    }
-    None
+    seen.iter().position(|s| s.state == *state)
 }
 
 impl Survey {
@@ -27,32 +24,28 @@ impl Survey {
         ensures { IfOk result (λ s. s.seen.items ≡ []) }
     {
         let seen = Vec::with_capacity(heap, 65535)?;
-        Ok(Survey { seen })
+        let opposed = Vec::with_capacity(heap, 65535)?;
+        Ok(Survey { seen, opposed })
     }
 
     // The different states that the log shows, each with whether it was shown with the head; or the first stray cell.
-    pub(crate) fn take<L: Log>(
-        &mut self,
-        shape: &Shape,
-        log: &L,
-        target: usize,
-        value: u8,
-    ) -> Result<(), Stray>
-        requires { target < 4 }
-        ensures { MatchResult result (λ _. AllByRecursion (LawfulRow shape.now) (L.Log.rows log.now) × (self.new.seen.items ≡ surveyed shape.now target value (L.Log.rows log.now))) (FirstStray shape.now (L.Log.rows log.now)) }
+    pub(crate) fn take<L: Log>(&mut self, shape: &Shape, log: &L, head: Head) -> Result<(), Stray>
+        requires { KnownHead shape.now head }
+        ensures { MatchResult result (λ _. AllByRecursion (LawfulRow shape.now) (L.Log.rows log.now) × (self.new.seen.items ≡ surveyed shape.now head.target head.value (L.Log.rows log.now))) (FirstStray shape.now (L.Log.rows log.now)) }
     {
+        let target = usize::from(head.target);
         self.seen.clear();
         'rows: for row in 0..log.count() {
             let cells = cells_of(log, row);
             scan(shape, row, &cells)?;
             let state = state_of(shape, &cells);
-            self.mark(state, cells[8 + target] == value);
+            self.mark(state, u16::from(cells[8 + target]) == head.value);
         }
         Ok(())
     }
 
     // One more row: its state, and whether it has the head's value.
-    fn mark(&mut self, state: [u8; 8], with_head: bool)
+    fn mark(&mut self, state: State, with_head: bool)
         requires { vec_len self.old.seen < 65535 }
         ensures items { self.new.seen.items ≡ marked self.old.seen.items state with_head }
         ensures len { vec_len self.new.seen ≤ vec_len self.old.seen + 1 }

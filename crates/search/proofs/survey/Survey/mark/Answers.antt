@@ -1,8 +1,7 @@
 use Rattle.std.proofs.Common.{List, length, vec_items, sym, ap, ◌∙◌, subst, rules}
 use Rattle.search.specs.Surveys.{Unseen, SeenAt, marked}
 use Rattle.search.specs.declared.survey.Seen.{Seen}
-use Rattle.search.proofs.Clears.{no_seen}
-use Rattle.search.proofs.Marks.{marked_none, marked_with, marked_without}
+use Rattle.search.proofs.Marks.{no_seen, marked_none, marked_with, marked_without}
 use Rattle.search.proofs.survey.Survey.mark.Goals as goal
 
 pub returns-then-with_head : goal.returns-then-with_head

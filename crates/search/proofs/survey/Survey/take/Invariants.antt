@@ -10,4 +10,4 @@ invariant-rows g l =
     let rows = take l.row (g.L.Log.rows l.log) in
     (vec_len l.self.seen ≤ l.row)
     × AllByRecursion (LawfulRow l.shape) rows
-    × (vec_items l.self.seen ≡ surveyed l.shape l.target l.value rows)
+    × (vec_items l.self.seen ≡ surveyed l.shape l.head.target l.head.value rows)

@@ -1,10 +1,10 @@
 use Rattle.std.proofs.Common.{◌≡◌, length, refl, arith, rules, below_more}
 use Rattle.std.proofs.lemmas.List.{get_or_default}
 use Rattle.search.proofs.survey.rows.scan.Goals as goal
-use Rattle.search.proofs.survey.rows.scan.Goals.{else-size-gt0-via-then-size-gt0+else-cells-cell, else-size-gt0-via-else-size-gt0}
+use Rattle.search.proofs.survey.rows.scan.Goals.{else-size-gt0-via-then-size-gt0+else-value-size, else-size-gt0-via-else-size-gt0}
 
-pub returns-then-cells-cell : goal.returns-then-cells-cell
-returns-then-cells-cell c =
+pub returns-then-value-size : goal.returns-then-value-size
+returns-then-value-size c =
     let twelve : length c.args.cells.now ≡ 12 = search rules in
     let read = get_or_default c.args.cells.now c.cells.cell 0 255 (omega arith) in
     record {
@@ -20,6 +20,6 @@ cells-preserved c =
     let read = get_or_default c.args.cells.now c.cells.cell 0 255 (omega arith) in
     below_more _ _ c.cells.invariant
     (λ astray. elim c.else-size-gt0.branch [
-      | else-size-gt0-via-then-size-gt0+else-cells-cell w ↦ omega (arith, w.if-cells-cell.false, astray.1)
+      | else-size-gt0-via-then-size-gt0+else-value-size w ↦ omega (arith, w.if-value-size.false, astray.1)
       | else-size-gt0-via-else-size-gt0 w ↦ omega (arith, w.if-size-gt0.false, astray.0)
     ])

@@ -1,6 +1,0 @@
-use Rattle.std.proofs.Common.{◌≡◌, ℕ, ◌<◌, length, get_or}
-use Rattle.model.specs.Rows.{no_row}
-use Rattle.pruned.proofs.survey.rows.cells_of.Given as goal
-
-abbrev pub invariant-cells : goal.invariant-cells
-invariant-cells g l = (length l.cells ≡ 12) × ((k : ℕ) → k < l.cell → get_or l.cells k 0 ≡ get_or (get_or (g.L.Log.rows l.log) l.row no_row).cells k 255)
