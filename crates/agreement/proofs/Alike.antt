@@ -1,5 +1,5 @@
 -- Two books that were asked tell whether they answer alike; over the same set of observations they do. Assumes nothing.
-use Rattle.std.proofs.Common.{◌≡◌, ℕ, Bool, List, length, Decides, Result, sym, refl, ◌∙◌, subst}
+use Rattle.std.proofs.Common.{◌≡◌, ℕ, Bool, List, length, Decides, Result, sym, refl, ◌∙◌}
 use Rattle.std.specs.List.{AllByRecursion}
 use Rattle.model.specs.Foretold.{Foretold}
 use Rattle.model.specs.Kinds.{Meaning}
@@ -31,10 +31,9 @@ module _ (m : Meaning) (s s' : Shape) (rows rows' : List Row) (h : Head) (sense 
   )
 
   pub listings_alike : (room room' : ℕ) → s ≡ s' → room ≡ room' → AllByRecursion (LawfulRow s) rows → AllByRecursion (LawfulRow s') rows' → SameSet (observations s rows) (observations s' rows') → AlikeListing m s s' rows rows' h sense room room'
-  listings_alike room room' one rooms lawful =
-      subst (λ (t : Shape). AllByRecursion (LawfulRow t) rows' → SameSet (observations s rows) (observations t rows') → AlikeListing m s t rows rows' h sense room room') one
-      (λ lawful' set before before' after after' r r' long long'.
-      listed_same m s h sense rows rows' (answers_set m s rows rows' lawful lawful' set) before before' (long ∙ rooms ∙ sym long') after after' r r')
+  listings_alike room room' one rooms lawful lawful' set before before' after after' r r' long long' =
+      let same = answers_set m s rows rows' lawful (rw (← one) at lawful') (rw (← one) at set) in
+      rw (← one) (listed_same m s h sense rows rows' same before before' (long ∙ rooms ∙ sym long') after after' r r')
 
 module _ (m : Meaning) (s s' : Shape) (rows rows' : List Row) (h : Head) (state : List ℕ) where
   pub decides_forecast : (r r' : Result (ℕ × ℕ × ℕ) Refusal) (b : Bool) → Foretold m s rows h state r → Foretold m s' rows' h state r' → Decides b (r ≡ r') → Decides b (AlikeForecast m s s' rows rows' h state)
@@ -47,6 +46,6 @@ module _ (m : Meaning) (s s' : Shape) (rows rows' : List Row) (h : Head) (state 
   )
 
   pub forecasts_alike : s ≡ s' → AllByRecursion (LawfulRow s) rows → AllByRecursion (LawfulRow s') rows' → SameSet (observations s rows) (observations s' rows') → AlikeForecast m s s' rows rows' h state
-  forecasts_alike one lawful =
-      subst (λ (t : Shape). AllByRecursion (LawfulRow t) rows' → SameSet (observations s rows) (observations t rows') → AlikeForecast m s t rows rows' h state) one
-      (λ lawful' set. forecasted_same m s h state rows rows' (answers_set m s rows rows' lawful lawful' set))
+  forecasts_alike one lawful lawful' set =
+      let same = answers_set m s rows rows' lawful (rw (← one) at lawful') (rw (← one) at set) in
+      rw (← one) (forecasted_same m s h state rows rows' same)

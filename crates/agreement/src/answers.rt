@@ -1,4 +1,4 @@
-// Comparing the answers of two books.
+// Comparing the listings of two books.
 ghost use Rattle.std.specs.Prelude.{◌≡◌, ◌*◌, ◌≤◌, length, IfOk, Decides};
 ghost use Rattle.agreement.specs.Alike.{SameListing};
 
@@ -19,17 +19,10 @@ pub(crate) fn same_listing(
         return false;
     }
     match one {
-        Ok(rules) => left[..8 * rules as usize] == right[..8 * rules as usize],
+        Ok(rules) => {
+            let front = 8 * rules as usize;
+            left[..front] == right[..front]
+        }
         Err(_) => true,
     }
-}
-
-// Whether two forecasts answered the same.
-pub(crate) fn same_forecast(
-    one: Result<(u32, u32, u32), Refusal>,
-    other: Result<(u32, u32, u32), Refusal>,
-) -> bool
-    ensures { Decides result (one ≡ other) }
-{
-    one == other
 }

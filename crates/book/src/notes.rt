@@ -10,10 +10,9 @@ use model::{Intake, Kind, Refusal, Row, Shape};
 fn cells_of(state: &[u8; 8], outcome: &[u8; 8]) -> [u8; 12]
     ensures { result ≡ state.now ++ take 4 outcome.now }
 {
-    let mut cells = [0u8; 12];
-    'cells: for i in 0..12usize {
-        cells[i] = if i < 8 { state[i] } else { outcome[i - 8] };
-    }
+    let mut cells = [0; 12];
+    cells[8..].copy_from_slice(&outcome[..4]);
+    cells[..8].copy_from_slice(state);
     cells
 }
 
@@ -21,15 +20,15 @@ fn cells_of(state: &[u8; 8], outcome: &[u8; 8]) -> [u8; 12]
 fn row_of(shape: &Shape, class: u16, day: u16, cells: &[u16]) -> Option<Row>
     ensures { MatchOption result (Notable shape.now class day cells.now → ⊥) (λ row. Notable shape.now class day cells.now × (row ≡ noted_row shape.now class day cells.now)) }
 {
-    let features = shape.feature_count();
-    if class < 1 || class > 3 || cells.len() < features {
+    let class = u8::try_from(class).ok()?;
+    if !(1..=3).contains(&class) {
         return None;
     }
-    let (front, back) = cells.split_at(features);
+    let (front, back) = cells.split_at_checked(shape.feature_count())?;
     let state = shape.state(front)?;
     let outcome = shape.outcome(back)?;
     Some(Row {
-        class: class as u8,
+        class,
         day,
         cells: cells_of(&state, &outcome),
     })
@@ -43,9 +42,7 @@ impl<K: Kind + Drop, I: Intake + Drop> Book<K, I> {
         ensures admits { (x : LogRow) → I.Intake.admits self.new.log x ≡ I.Intake.admits self.old.log x }
         ensures answer { Noted self.old.shape class day cells.now (I.Intake.admits self.old.log (noted_row self.old.shape class day cells.now)) (I.Intake.free self.old.log) (I.Log.rows self.old.log) (I.Log.rows self.new.log) result }
     {
-        let Some(row) = row_of(&self.shape, class, day, cells) else {
-            return Err(Refusal::Observation);
-        };
+        let row = row_of(&self.shape, class, day, cells).ok_or(Refusal::Observation)?;
         self.log.append(row)?;
         Ok(self.log.count())
     }

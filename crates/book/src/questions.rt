@@ -1,5 +1,5 @@
 // Asking a book: listings and forecasts.
-ghost use Rattle.std.specs.Prelude.{◌≡◌};
+ghost use Rattle.book.specs.Keeps.{Keeps};
 ghost use Rattle.model.specs.Forecasts.{Forecasted};
 ghost use Rattle.model.specs.Foretold.{Foretold};
 ghost use Rattle.model.specs.Listed.{Listed};
@@ -13,8 +13,7 @@ use model::{Head, Kind, Log, Refusal, Sense};
 impl<K: Kind + Drop, L: Log + Drop> Book<K, L> {
     // Fills rule memory with every optimal rule of a head and a sense; the answer is their number.
     pub fn list(&mut self, head: Head, sense: Sense, rules: &mut [u8]) -> Result<u32, Refusal>
-        ensures shape { self.new.shape ≡ self.old.shape }
-        ensures log { self.new.log ≡ self.old.log }
+        ensures kept { Keeps self.old self.new }
         ensures answer { Listed K.Kind.meaning self.old.shape (L.Log.rows self.old.log) head (found K.Kind.meaning self.old.shape (L.Log.rows self.old.log) head sense) rules.old rules.new result }
         ensures listing { ListedWhole K.Kind.meaning self.old.shape (L.Log.rows self.old.log) head sense rules.old rules.new result }
         ensures whole { Whole K.Kind.meaning self.old.shape (L.Log.rows self.old.log) head sense rules.new result }
@@ -25,8 +24,7 @@ impl<K: Kind + Drop, L: Log + Drop> Book<K, L> {
 
     // For, against and the percentage of a head at a state.
     pub fn forecast(&mut self, head: Head, state: &[u16]) -> Result<(u32, u32, u32), Refusal>
-        ensures shape { self.new.shape ≡ self.old.shape }
-        ensures log { self.new.log ≡ self.old.log }
+        ensures kept { Keeps self.old self.new }
         ensures answer { Forecasted K.Kind.meaning self.old.shape (L.Log.rows self.old.log) head state.now (best_matching K.Kind.meaning self.old.shape (L.Log.rows self.old.log) head Can state.now) (best_matching K.Kind.meaning self.old.shape (L.Log.rows self.old.log) head Cannot state.now) result }
         ensures told { Foretold K.Kind.meaning self.old.shape (L.Log.rows self.old.log) head state.now result }
     {

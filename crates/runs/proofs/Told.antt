@@ -19,7 +19,7 @@ use Rattle.model.specs.Values.{Fitting}
 use Rattle.model.specs.Weights.{forecast}
 use Rattle.model.specs.declared.head.Head.{Head}
 use Rattle.model.specs.declared.refusal.Refusal.{Refusal}
-use Rattle.model.specs.declared.refusal.Refusal.TheVariants.{Shape as refused_shape, Image, Observation as refused_note, NotAdmitted, Full, Head as refused_head, Bodies, Stray, Rules, State, Line, Output}
+use Rattle.model.specs.declared.refusal.Refusal.TheVariants.{Head as refused_head, Bodies, Stray, State}
 use Rattle.model.specs.declared.refusal.Stray.{Stray as Fault}
 use Rattle.model.specs.declared.row.Row.{Row}
 use Rattle.model.specs.declared.shape.Shape.{Shape}
@@ -93,14 +93,7 @@ module _ (m : Meaning) (laws : Laws m) (s : Shape) (rows : List Row) (os : List 
   refused State never = never.1 fits
   refused Bodies never = never.2 listable
   refused (Stray f) never = stray_never s rows f never.3 shows.lawful
-  refused refused_shape never = never
-  refused Image never = never
-  refused refused_note never = never
-  refused NotAdmitted never = never
-  refused Full never = never
-  refused (Rules n) never = never
-  refused Line never = never
-  refused (Output bytes lines) never = never
+  refused _ never = never
 
   pub tells_noted : (r : Result (ℕ × ℕ × ℕ) Refusal) → Foretold m s rows h st r → MatchResult r (λ answer. Tells os h st answer.2) (λ _. ⊥)
   tells_noted (Ok answer) forecasted = tells answer (forecasted.4 ∙ ap (λ (xs : List Observation). forecast m (features s) xs h.target h.value st) shows.same)

@@ -10,40 +10,35 @@ use book::Book;
 use model::{Intake, Kind};
 
 // Makes the call of an entry, and puts its answer there.
-fn make<'a, K: Kind + Drop, I: Intake + Drop>(
+fn make<K: Kind + Drop, I: Intake + Drop>(
     book: &mut Book<K, I>,
-    asked: Entry<'a>,
+    entry: &mut Entry<'_>,
     rules: &mut [u8],
-) -> Entry<'a>
+)
     ensures shape { book.new.shape ≡ book.old.shape }
-    ensures call { call_of result ≡ call_of asked.entry }
-    ensures rows { I.Log.rows book.new.log ≡ I.Log.rows book.old.log ++ taken_in book.old.shape result }
-    ensures free { I.Intake.free book.new.log ≡ I.Intake.free book.old.log - length (taken_in book.old.shape result) }
+    ensures call { call_of entry.new ≡ call_of entry.old }
+    ensures rows { I.Log.rows book.new.log ≡ I.Log.rows book.old.log ++ taken_in book.old.shape entry.new }
+    ensures free { I.Intake.free book.new.log ≡ I.Intake.free book.old.log - length (taken_in book.old.shape entry.new) }
     ensures admits { (x : Row) → I.Intake.admits book.new.log x ≡ I.Intake.admits book.old.log x }
-    ensures answer { Answered K.Kind.meaning book.old.shape (I.Intake.admits book.old.log) (I.Intake.free book.old.log) (I.Log.rows book.old.log) rules.old rules.new result }
+    ensures answer { Answered K.Kind.meaning book.old.shape (I.Intake.admits book.old.log) (I.Intake.free book.old.log) (I.Log.rows book.old.log) rules.old rules.new entry.new }
 {
-    match asked {
+    match entry {
         Entry::Note {
             class,
             day,
             cells,
-            ..
-        } => Entry::Note {
-            class,
-            day,
-            cells,
-            answer: Some(book.note(class, day, cells)),
-        },
-        Entry::List { head, sense, .. } => Entry::List {
+            answer,
+        } => *answer = Some(book.note(*class, *day, cells)),
+        Entry::List {
             head,
             sense,
-            answer: Some(book.list(head, sense, rules)),
-        },
-        Entry::Forecast { head, state, .. } => Entry::Forecast {
+            answer,
+        } => *answer = Some(book.list(*head, *sense, rules)),
+        Entry::Forecast {
             head,
             state,
-            answer: Some(book.forecast(head, state)),
-        },
+            answer,
+        } => *answer = Some(book.forecast(*head, state)),
     }
 }
 
@@ -61,7 +56,7 @@ pub fn run<K: Kind + Drop, I: Intake + Drop>(
     ensures answers { Ran K.Kind.meaning book.old.shape (I.Intake.admits book.old.log) (I.Intake.free book.old.log) (I.Log.rows book.old.log) rules.old entries.new rules.new }
     ensures told { NotedStatesTold K.Kind.meaning book.old.shape (I.Log.rows book.old.log) entries.new (I.Log.rows book.new.log) }
 {
-    'calls: for i in 0..entries.len() {
-        entries[i] = make(book, entries[i], rules);
+    'calls: for entry in entries.iter_mut() {
+        make(book, entry, rules);
     }
 }
