@@ -1,13 +1,13 @@
 -- Emitting one page after another to the output. Assumes nothing.
-use Rattle.std.proofs.Common.{◌≡◌, ℕ, ◌+◌, ◌≤◌, Bool, true, false, cond, List, ◌++◌, length, take, drop, Some, None, Option, sym, refl, ap, ◌∙◌, arith}
+use Rattle.std.proofs.Common.{◌≡◌, ℕ, ◌+◌, ◌≤◌, Bool, true, false, cond, List, ◌++◌, length, take, drop, Result, Ok, Err, sym, refl, ap, ◌∙◌, arith}
 use Rattle.std.proofs.lemmas.List.{append_assoc, drop_at, drop-drop, length-append, length-take-le, length-drop}
 use Rattle.std.proofs.lemmas.Bool.{leb-true}
 use Rattle.session.specs.Outputs.{fits, placed}
 
--- an answer of some number came of a text that fits
-pub emitted : (b : Bool) (x y : ℕ) (r : Option ℕ) → r ≡ cond b (Some x) None → r ≡ Some y → (b ≡ true) × (y ≡ x)
-emitted true x y r e f = (refl, cc)
-emitted false x y r e f = let z : ◌≡◌ {A = ℕ} 0 1 = cc in absurd (omega arith)
+-- an answer that is no refusal came of a text that fits
+pub emitted : {A E : Type 0} (b : Bool) (x y : A) (e : E) (r : Result A E) → r ≡ cond b (Ok x) (Err e) → r ≡ Ok y → (b ≡ true) × (y ≡ x)
+emitted true x y e r p q = (refl, cc)
+emitted false x y e r p q = cc
 
 module _ (before out text : List ℕ) (w : ℕ) (fit : fits out w text ≡ true) where
   long : w + length text ≤ length out

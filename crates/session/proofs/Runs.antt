@@ -3,7 +3,7 @@ use Rattle.std.proofs.Common.{◌≡◌, ℕ, ◌+◌, ◌-◌, ◌*◌, ◌^◌
 use Rattle.std.specs.Str.Parse.{AllDigits, digits_value}
 use Rattle.std.specs.Char.{IsAsciiDigit, digit_value as digitValue}
 use Rattle.std.specs.Int.Digits.{number_from_digits, number_from_digits_after}
-use Rattle.std.proofs.lemmas.List.{drop_all, drop_more, map-append, take-append-drop, length-take-le, get_or-take}
+use Rattle.std.proofs.lemmas.List.{map-append, take-append-drop, length-take-le, get_or-take}
 use Rattle.std.proofs.lemmas.Int.Digits.{digits_value_is, digits_value_more, digits_more, number_after_append, number_after_ge}
 use Rattle.std.proofs.lemmas.Str.Parse.{IsNumeralModel, numerals_by_value, tells_digits, digit_from_value}
 use Rattle.std.proofs.lemmas.Fmt.{digits_decimal, digits_value-decimal, decimal-digits_value, decimal_nonempty, first_decimal, decimal_digit}
@@ -13,14 +13,6 @@ use Rattle.session.specs.Lines.{Small, Ends, Runs, Begins, NoNumber}
 
 numerals : IsNumeralModel (AllDigits 10) (digits_value 10)
 numerals = numerals_by_value (AllDigits 10) tells_digits
-
--- past the end there is no digit
-pub ends_all : (bytes : List ℕ) (i : ℕ) → length bytes ≤ i → Ends (drop i bytes)
-ends_all bytes i h = subst Ends (sym (drop_all i bytes h)) tt
-
--- nor is there one at a byte that is none
-pub ends_here : (bytes : List ℕ) (i : ℕ) → i < length bytes → (IsAsciiDigit (get_or bytes i 0) → ⊥) → Ends (drop i bytes)
-ends_here bytes i h no_digit = subst Ends (sym (drop_more bytes i 0 h)) no_digit
 
 digit_value : (c : ℕ) → IsAsciiDigit c → digitValue c ≡ c - 48
 digit_value c h = grind (arith, nat_tests)
@@ -67,6 +59,12 @@ too_large bytes ds x d split large n rest small ends e =
     let big : n < 2 ^ 64 = omega arith in
     let same : digits_value 10 (ds ++ t.0) ≡ n = ap (digits_value 10) (sym t.1) ∙ digits_value-decimal numerals n big in
     omega (arith, value_extends ds t.0)
+
+-- where one more digit makes the number too large, there is none
+pub no_more : (bytes : List ℕ) (i n digit : ℕ) → i < length bytes → IsAsciiDigit (get_or bytes i 0) → digit ≡ get_or bytes i 0 - 48 → n ≡ digits_value 10 (take i bytes) → AllDigits 10 (take i bytes) → 65535 < n * 10 + digit → NoNumber bytes
+no_more bytes i n digit inside is_digit d v run large =
+    let more = run_more bytes i n digit inside is_digit d v run in
+    too_large bytes (take (i + 1) bytes) (drop (i + 1) bytes) more.1 (sym (take-append-drop (i + 1) bytes)) (omega arith)
 
 -- nor does one whose first digits, all that there are, are the text of no number
 pub no_number : (bytes ds x : List ℕ) → AllDigits 10 ds → Ends x → bytes ≡ ds ++ x → ((n : ℕ) → Small n → ds ≡ decimal n → ⊥) → NoNumber bytes

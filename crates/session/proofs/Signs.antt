@@ -1,26 +1,9 @@
 -- The space and the sign at the end of a text. Assumes nothing.
-use Rattle.std.proofs.Common.{◌≡◌, ℕ, ◌+◌, ◌-◌, ◌≤◌, List, [], ◌∷◌, ◌++◌, length, get_or, take, sym, refl, ap, ◌∙◌, append_assoc, arith}
-use Rattle.std.proofs.lemmas.List.{drop_all, drop_more, take-append-drop, length-append, get_or-append_right, same_from_push}
+use Rattle.std.proofs.Common.{◌≡◌, ℕ, ◌+◌, ◌-◌, List, [], ◌∷◌, ◌++◌, length, get_or, sym, refl, ap, ◌∙◌, append_assoc, arith}
+use Rattle.std.proofs.lemmas.List.{length-append, get_or-append_right, same_from_push}
 use Rattle.session.specs.Lines.{Lists, Signed, Asks, fields, sign_of}
 use Rattle.session.proofs.Fields.{same_from_fields}
 use Rattle.model.specs.declared.sense.Sense.{Sense}
-
--- two bytes at the end, by their places
-pub last_two : (xs : List ℕ) (n : ℕ) → n + 2 ≡ length xs → xs ≡ take n xs ++ (get_or xs n 0 ∷ get_or xs (n + 1) 0 ∷ [])
-last_two xs n h =
-    let one = drop_more xs n 0 (omega arith) in
-    let two = drop_more xs (n + 1) 0 (omega arith) in
-    let none = drop_all (n + 1 + 1) xs (omega arith) in
-    let all = take-append-drop n xs in cc
-
--- a space and a sign at the end
-pub signed_from_places : (bytes : List ℕ) (sense : Sense) → 2 ≤ length bytes → get_or bytes (length bytes - 2) 0 ≡ 32 → sign_of sense ≡ get_or bytes (length bytes - 1) 0 → Signed bytes (take (length bytes - 2) bytes) sense
-signed_from_places bytes sense long space sign =
-    let n = length bytes - 2 in
-    let place : length bytes - 1 ≡ n + 1 = omega arith in
-    let split = last_two bytes n (omega arith) in
-    let last : get_or bytes (n + 1) 0 ≡ sign_of sense = ap (λ (i : ℕ). get_or bytes i 0) (sym place) ∙ sym sign in
-    split ∙ ap (λ (a : ℕ). take n bytes ++ (a ∷ get_or bytes (n + 1) 0 ∷ [])) space ∙ ap (λ (b : ℕ). take n bytes ++ (32 ∷ b ∷ [])) last
 
 -- where they stand
 pub signed_places : (bytes front : List ℕ) (sense : Sense) → Signed bytes front sense → (length bytes ≡ length front + 2) × (get_or bytes (length bytes - 2) 0 ≡ 32) × (get_or bytes (length bytes - 1) 0 ≡ sign_of sense)

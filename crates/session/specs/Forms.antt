@@ -8,5 +8,5 @@ abbrev pub line_of : Form → Line
 line_of (Features sizes) = features sizes.now
 line_of (Targets sizes) = targets sizes.now
 line_of (Note class day cells) = note class day cells.now
-line_of (Listing target value sense) = listing target value sense
-line_of (Forecast target value state) = forecast target value state.now
+line_of (Listing head sense) = listing head.target head.value sense
+line_of (Forecast head state) = forecast head.target head.value state.now

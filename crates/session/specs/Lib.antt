@@ -4,5 +4,6 @@ pub mod Lines
 pub mod Lists
 pub mod Outputs
 pub mod Pages
+pub mod Reserveds
 pub mod Rooms
 pub mod Texts

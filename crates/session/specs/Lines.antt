@@ -19,13 +19,17 @@ fields (n ∷ ns) = codes " " ++ (decimal n ++ fields ns)
 abbrev pub Lists : List ℕ → List ℕ → Type 0
 Lists bytes ns = AllByRecursion Small ns × (bytes ≡ fields ns)
 
+-- a text is no longer than a session takes
+abbrev pub Short : List ℕ → Type 0
+Short bytes = length bytes ≤ 65536
+
 -- the bytes are no such list; longer texts than a session takes are not spoken of
 abbrev pub NoList : List ℕ → Type 0
-NoList bytes = length bytes ≤ 65536 → (ns : List ℕ) → Lists bytes ns → ⊥
+NoList bytes = Short bytes → (ns : List ℕ) → Lists bytes ns → ⊥
 
 -- the bytes are no list of two numbers and more
 abbrev pub NoPair : List ℕ → Type 0
-NoPair bytes = length bytes ≤ 65536 → (a b : ℕ) (ns : List ℕ) → Lists bytes (a ∷ b ∷ ns) → ⊥
+NoPair bytes = Short bytes → (a b : ℕ) (ns : List ℕ) → Lists bytes (a ∷ b ∷ ns) → ⊥
 
 -- the sign of a sense: can, or cannot
 abbrev pub sign_of : Sense → ℕ
@@ -46,7 +50,7 @@ Asks bytes target value sense = AllByRecursion Small (target ∷ value ∷ []) �
 
 -- the bytes are nothing of the kind
 abbrev pub NoAsk : List ℕ → Type 0
-NoAsk bytes = length bytes ≤ 65536 → (target value : ℕ) (sense : Sense) → Asks bytes target value sense → ⊥
+NoAsk bytes = Short bytes → (target value : ℕ) (sense : Sense) → Asks bytes target value sense → ⊥
 
 -- what a line says: sizes; class, day and cells; a head and a sense; a head and a state
 pub data Line : Type 0 where
@@ -78,7 +82,7 @@ Says bytes line = AllByRecursion Small (numbers line) × (bytes ≡ text line)
 
 -- the bytes are the text of no line; longer lines than a session takes are not spoken of
 abbrev pub NoLine : List ℕ → Type 0
-NoLine bytes = length bytes ≤ 65536 → (line : Line) → Says bytes line → ⊥
+NoLine bytes = Short bytes → (line : Line) → Says bytes line → ⊥
 
 -- a text that does not begin with a digit
 abbrev pub Ends : List ℕ → Type 0

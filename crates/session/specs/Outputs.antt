@@ -2,7 +2,7 @@
 use Rattle.std.specs.Prelude.{◌≡◌, ℕ, ◌+◌, ◌≤◌, Bool, List, ◌++◌, length, take, drop, Result, MatchResult, nat_le}
 use Rattle.model.specs.declared.refusal.Refusal.{Refusal}
 use Rattle.model.specs.declared.refusal.Refusal.TheVariants.{Shape, Image, Observation, NotAdmitted, Full, Head, Bodies, Stray, Rules, State, Line, Output}
-use Rattle.session.specs.declared.running.Done.{Done}
+use Rattle.session.specs.declared.output.Done.{Done}
 
 -- whether a text fits whole into the output, after the bytes written before
 abbrev pub fits : List ℕ → ℕ → List ℕ → Bool

@@ -2,23 +2,19 @@
 ghost use Rattle.std.specs.Option.{MatchOption};
 ghost use Rattle.session.specs.Lines.{Runs, Begins, NoNumber};
 
-// The largest number that a line may have.
-const LARGEST: u32 = 65_535;
-
 // The digits that a text begins with: the number that they write, if it is not too large, and how many there are.
-fn read_digits(text: &[u8]) -> Option<(u32, usize)>
+fn read_digits(text: &[u8]) -> Option<(u16, usize)>
     ensures { MatchOption result (NoNumber text.now) (λ x. Runs text.now x.0 x.1) }
 {
-    let mut digits = 0;
-    let mut number: u32 = 0;
-    'figures: while digits < text.len() && text[digits].is_ascii_digit() {
-        number = number * 10 + u32::from(text[digits] - b'0');
-        if number > LARGEST {
-            return None;
+    let mut number: u16 = 0;
+    'figures: for (digits, byte) in text.iter().enumerate() {
+        if !byte.is_ascii_digit() {
+            return Some((number, digits));
         }
-        digits += 1;
+        let digit = u16::from(*byte - b'0');
+        number = number.checked_mul(10)?.checked_add(digit)?;
     }
-    Some((number, digits))
+    Some((number, text.len()))
 }
 
 // The number that a text begins with, and how many digits it has.
@@ -32,5 +28,5 @@ pub(crate) fn read_number(text: &[u8]) -> Option<(u16, usize)>
     if digits > 1 && text[0] == b'0' {
         return None;
     }
-    Some((number as u16, digits))
+    Some((number, digits))
 }

@@ -1,5 +1,5 @@
 // The forms that a line may have.
-use model::Sense;
+use model::{Head, Sense};
 
 // What a line says, with its lists where they were read.
 #[derive(Clone, Copy)]
@@ -16,14 +16,12 @@ pub(crate) enum Form<'a> {
     },
     // `L`, target, value and sense
     Listing {
-        target: u16,
-        value: u16,
+        head: Head,
         sense: Sense,
     },
     // `P`, target, value and state
     Forecast {
-        target: u16,
-        value: u16,
+        head: Head,
         state: &'a [u16],
     },
 }

@@ -5,8 +5,11 @@ mod desk;
 mod digits;
 mod form;
 mod numbers;
+mod output;
 mod page;
 mod reader;
+mod reserved;
 mod running;
 
-pub use running::{Done, Session};
+pub use output::Done;
+pub use running::Session;

@@ -1,16 +1,9 @@
 // A page: the text that one line prints, put together where its room was reserved.
-ghost use Rattle.std.specs.Prelude.{◌≤◌, vec_capacity};
-ghost use Rattle.session.specs.Rooms.{page_room};
+use super::reserved::Reserved;
 
-// The memory is reserved when the page is made, so that printing never fails.
-#[derive(Drop)]
-pub(crate) struct Page {
-    text: Vec<u8>,
-    ghost room: { page_room ≤ vec_capacity text },
-}
+// 8,192 rules of at most 70 bytes each, and a count line of at most 17.
+const ROOM: usize = 573_457;
 
-mod calls;
-mod copying;
+pub(crate) type Page = Reserved<u8, ROOM>;
+
 mod texts;
-
-pub(crate) use copying::emit;

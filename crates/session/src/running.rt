@@ -6,22 +6,13 @@ ghost use Rattle.session.specs.Outputs.{Answered};
 
 use super::desk::Desk;
 use super::numbers::Numbers;
-use super::page::emit;
+use super::output::{Done, emit};
 use super::reader::read;
 use model::Refusal;
 use std::alloc::{AllocError, Global};
 
 // The most bytes of lines that a session reads.
 const LONGEST: usize = 65_536;
-
-const LINE_FEED: u8 = b'\n';
-
-// How many output bytes were written, and how many lines were done.
-#[derive(Clone, Copy, PartialEq, Eq, Debug)]
-pub struct Done {
-    pub written: usize,
-    pub lines: usize,
-}
 
 // A session: its book and its working memory, all got at the start.
 #[derive(Drop)]
@@ -30,18 +21,11 @@ pub struct Session {
     desk: Desk,
 }
 
-// Where the line from a place on ends: at the next line feed, or at the end of the input.
-fn line_end(input: &[u8], from: usize) -> usize
-    requires { from ≤ length input.now }
-    ensures low { from ≤ result }
-    ensures high { result ≤ length input.now }
+// A line without the line feed that ends it.
+fn without_line_feed(line: &[u8]) -> &[u8]
+    ensures { length result.now ≤ length line.now }
 {
-    'bytes: for i in from..input.len() {
-        if input[i] == LINE_FEED {
-            return i;
-        }
-    }
-    input.len()
+    line.strip_suffix(b"\n").unwrap_or(line)
 }
 
 impl Session {
@@ -59,22 +43,21 @@ impl Session {
         ensures written { Answered output.old output.new result }
         ensures too_long { 65536 < length input.now → result ≡ Err (Output 0 0) }
     {
-        let mut written = 0;
-        let mut lines = 0;
         if input.len() > LONGEST {
-            return Err(Refusal::Output { written, lines });
+            return Err(Refusal::Output {
+                written: 0,
+                lines: 0,
+            });
         }
-        let mut at = 0;
-        'lines: while at < input.len() {
-            let end = line_end(input, at);
-            self.desk.answer(read(&input[at..end], &mut self.numbers));
-            let Some(after) = emit(&self.desk.page, output, written) else {
-                return Err(Refusal::Output { written, lines });
-            };
-            written = after;
-            lines += 1;
-            at = end + 1;
+        let mut done = Done {
+            written: 0,
+            lines: 0,
+        };
+        'lines: for line in input.split_inclusive(|byte| *byte == b'\n') {
+            let form = read(without_line_feed(line), &mut self.numbers);
+            self.desk.answer(form);
+            done = emit(&self.desk.page, output, done)?;
         }
-        Ok(Done { written, lines })
+        Ok(done)
     }
 }

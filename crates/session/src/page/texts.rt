@@ -5,8 +5,10 @@ ghost use Rattle.session.specs.Pages.{text_of, used};
 ghost use Rattle.session.specs.Texts.{mark, condition, conditions, rule_text, count_text, forecast_text, refusal_text};
 
 use super::Page;
+use itoa::{Buffer, Integer};
 use model::{Head, Sense};
 
+// The mark of a sense. No From: the byte and the sense are both of other crates.
 fn sign(sense: Sense) -> u8
     ensures { mark sense ≡ result ∷ [] }
 {
@@ -17,7 +19,16 @@ fn sign(sense: Sense) -> u8
 }
 
 impl Page {
-    // A feature's condition, where it has one.
+    // A number in decimal. Not by `write!`, of which no contract says that it succeeds.
+    fn push_number<N: Integer>(&mut self, number: N)
+        requires { used self.old + N.MAX_STR_LEN ≤ page_room }
+        ensures items { text_of self.new ≡ text_of self.old ++ N.text number }
+        ensures len { used self.new ≤ used self.old + N.MAX_STR_LEN }
+    {
+        self.extend_from_slice(Buffer::new().format(number).as_bytes());
+    }
+
+    // A feature's condition, where it has one. A feature has one digit.
     fn push_condition(&mut self, feature: u8, code: u8)
         requires digit { feature < 10 }
         requires room { used self.old + 6 ≤ page_room }
@@ -26,9 +37,9 @@ impl Page {
     {
         if code > 0 {
             self.push(b' ');
-            self.push_digit(feature);
+            self.push(b'0' + feature);
             self.push(b'=');
-            self.push_small(code - 1);
+            self.push_number(code - 1);
         }
     }
 
@@ -51,9 +62,9 @@ impl Page {
         ensures items { text_of self.new ≡ text_of self.old ++ rule_text head.target sense head.value body.now }
         ensures len { used self.new ≤ used self.old + 70 }
     {
-        self.push_number(u32::from(head.target));
+        self.push_number(head.target);
         self.push(sign(sense));
-        self.push_number(u32::from(head.value));
+        self.push_number(head.value);
         self.push_conditions(body);
         self.push(b'\n');
     }
@@ -65,7 +76,7 @@ impl Page {
         ensures len { used self.new ≤ used self.old + 17 }
     {
         self.push_number(rules);
-        self.push_text(b" rules\n");
+        self.extend_from_slice(b" rules\n");
     }
 
     // A refusal's line.
@@ -74,8 +85,8 @@ impl Page {
         ensures items { text_of self.new ≡ text_of self.old ++ refusal_text number }
         ensures len { used self.new ≤ used self.old + 6 }
     {
-        self.push_text(b"! ");
-        self.push_small(number);
+        self.extend_from_slice(b"! ");
+        self.push_number(number);
         self.push(b'\n');
     }
 

@@ -1,29 +1,19 @@
-use Rattle.std.proofs.Common.{◌+◌, take, drop, sym, arith}
-use Rattle.std.proofs.lemmas.List.{take-append-drop}
-use Rattle.session.proofs.Runs.{ends_all, ends_here, run_more, too_large}
+use Rattle.std.proofs.Common.{arith}
+use Rattle.session.proofs.Runs.{run_more, no_more}
 use Rattle.session.proofs.digits.read_digits.Goals as goal
+
+pub returns-in_err-checked_mul : goal.returns-in_err-checked_mul
+returns-in_err-checked_mul c =
+    let inv = c.figures.invariant in
+    rw c.from_residual.ensures (no_more c.args.text.now c.figures.digits c.figures.number c.from-digit.result c.figures-test.true c.if-not-is_ascii_digit.ensures.cases c.from-digit.ensures inv.0 inv.2 (omega (arith, c.in_err-checked_mul.ensures)))
+
+pub returns-in_err-number : goal.returns-in_err-number
+returns-in_err-number c =
+    let inv = c.figures.invariant in
+    rw c.from_residual-in_err-number.ensures (no_more c.args.text.now c.figures.digits c.figures.number c.from-digit.result c.figures-test.true c.if-not-is_ascii_digit.ensures.cases c.from-digit.ensures inv.0 inv.2 (omega (arith, c.in_err-number.ensures, c.in_ok-checked_mul.ensures)))
 
 pub figures-preserved : goal.figures-preserved
 figures-preserved c =
     let inv = c.figures.invariant in
-    let more = run_more c.args.text.now c.figures.digits c.figures.number c.from.result c.figures-test.true c.if-is_ascii_digit.ensures.cases c.from.ensures inv.1 inv.3 in
-    (omega arith, more.0, omega arith, more.1)
-
-pub returns-then-number-gt-LARGEST : goal.returns-then-number-gt-LARGEST
-returns-then-number-gt-LARGEST c =
-    let inv = c.figures.invariant in
-    let bytes = c.args.text.now in
-    let i = c.figures.digits in
-    let more = run_more bytes i c.figures.number c.from.result c.figures-test.true c.if-is_ascii_digit.ensures.cases c.from.ensures inv.1 inv.3 in
-    too_large bytes (take (i + 1) bytes) (drop (i + 1) bytes) more.1 (sym (take-append-drop (i + 1) bytes)) (omega arith)
-
-pub returns-else-is_ascii_digit : goal.returns-else-is_ascii_digit
-returns-else-is_ascii_digit c =
-    let inv = c.figures.invariant in
-    let ends = ends_here c.args.text.now c.figures.digits c.figures-test.true (λ h. omega (arith, c.if-is_ascii_digit.ensures.cases)) in
-    (inv.2, inv.0, inv.1, inv.3, ends)
-
-pub returns-after-figures : goal.returns-after-figures
-returns-after-figures c =
-    let inv = c.figures.invariant in
-    (inv.2, inv.0, inv.1, inv.3, ends_all c.args.text.now c.figures.digits c.figures-test.false)
+    let more = run_more c.args.text.now c.figures.digits c.figures.number c.from-digit.result c.figures-test.true c.if-not-is_ascii_digit.ensures.cases c.from-digit.ensures inv.0 inv.2 in
+    (omega (arith, c.in_ok-number.ensures, c.in_ok-checked_mul.ensures), omega (arith, c.in_ok-number.ensures, c.in_ok-checked_mul.ensures), more.1)

@@ -3,9 +3,6 @@ use Rattle.session.proofs.Runs.{no_digits, zero_led, number_begins}
 use Rattle.session.proofs.digits.read_number.Goals as goal
 use Rattle.session.proofs.digits.read_number.Goals.{else-digits-gt1-via-then-digits-gt1+else-text-eq48, else-digits-gt1-via-else-digits-gt1}
 
-pub returns-in_err-number : goal.returns-in_err-number
-returns-in_err-number c = rw c.from_residual.ensures c.in_err-number.ensures
-
 pub returns-then-digits-eq0 : goal.returns-then-digits-eq0
 returns-then-digits-eq0 c = no_digits c.args.text.now c.in_ok-number.number c.in_ok-number.digits c.in_ok-number.ensures (omega arith)
 

@@ -1,7 +1,6 @@
-use Rattle.std.proofs.Common.{ℕ, List, [], ◌∷◌, ◌++◌, ap, ◌∙◌, subst, arith}
+use Rattle.std.proofs.Common.{[], ◌∷◌, arith}
 use Rattle.std.proofs.lemmas.Bool.{ltb-true, ltb-false}
-use Rattle.session.specs.Lines.{Lists, fields, sign_of}
-use Rattle.session.proofs.Fields.{two_split}
+use Rattle.session.specs.Lines.{fields}
 use Rattle.session.proofs.Signs.{signed_places, asks_front, no_ask}
 use Rattle.session.proofs.reader.read_ask.Goals as goal
 
@@ -15,14 +14,6 @@ returns-in_err-read_list c =
     let signed = c.in_ok-front.ensures in
     let long = (signed_places bytes front c.in_ok-front.sense signed).0 in
     rw c.from_residual-in_err-read_list.ensures (λ short t v sense asks. c.in_err-read_list.ensures (omega (arith, ltb-true, ltb-false)) (t ∷ v ∷ []) (asks_front bytes front c.in_ok-front.sense signed t v sense asks))
-
-pub returns-in-len2 : goal.returns-in-len2
-returns-in-len2 c =
-    let ns = c.in_ok-read_list.field-0.now in
-    let front = c.in_ok-front.front.now in
-    let ending : List ℕ = 32 ∷ sign_of c.in_ok-front.sense ∷ [] in
-    let lists = subst (λ (xs : List ℕ). Lists front xs) (two_split ns (omega (arith, ltb-true, ltb-false))) c.in_ok-read_list.ensures in
-    (lists.0, c.in_ok-front.ensures ∙ ap (λ (xs : List ℕ). xs ++ ending) lists.1)
 
 pub returns-then-branch-lt2 : goal.returns-then-branch-lt2
 returns-then-branch-lt2 c = λ short. no_ask c.args.text.now c.in_ok-front.front.now c.in_ok-read_list.field-0.now c.in_ok-front.sense c.in_ok-front.ensures c.in_ok-read_list.ensures (λ h. omega (arith, ltb-true, ltb-false))

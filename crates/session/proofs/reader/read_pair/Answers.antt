@@ -1,7 +1,6 @@
-use Rattle.std.proofs.Common.{ℕ, List, ◌∷◌, subst, arith}
+use Rattle.std.proofs.Common.{◌∷◌, arith}
 use Rattle.std.proofs.lemmas.Bool.{ltb-true, ltb-false}
-use Rattle.session.specs.Lines.{Lists}
-use Rattle.session.proofs.Fields.{no_pair, pair_split}
+use Rattle.session.proofs.Fields.{no_pair}
 use Rattle.session.proofs.reader.read_pair.Goals as goal
 
 pub returns-in_err-read_list : goal.returns-in_err-read_list
@@ -9,6 +8,3 @@ returns-in_err-read_list c = rw c.from_residual.ensures (λ short a b ns. c.in_e
 
 pub returns-in_default : goal.returns-in_default
 returns-in_default c = λ short. no_pair c.args.text.now c.in_ok-read_list.field-0.now c.in_ok-read_list.ensures (omega (arith, ltb-true, ltb-false))
-
-pub returns-in-len2-up : goal.returns-in-len2-up
-returns-in-len2-up c = subst (λ (ns : List ℕ). Lists c.args.text.now ns) (pair_split c.in_ok-read_list.field-0.now (omega (arith, ltb-true, ltb-false))) c.in_ok-read_list.ensures

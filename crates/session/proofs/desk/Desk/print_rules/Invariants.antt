@@ -1,6 +1,9 @@
-use Rattle.std.proofs.Common.{◌≡◌, ◌*◌, ◌≤◌, vec_len}
+use Rattle.std.proofs.Common.{◌≡◌, ◌+◌, ◌*◌, ◌/◌, ◌≤◌, length}
+use Rattle.std.specs.Slice.Iter.{chunks_exact_rest, chunks_exact_size}
 use Rattle.session.specs.Pages.{used}
 use Rattle.session.proofs.desk.Desk.print_rules.Given as goal
 
 abbrev pub invariant-rules : goal.invariant-rules
-invariant-rules l = (vec_len l.self.rules ≡ 65536) × (used l.self.page ≤ 70 * l.i)
+invariant-rules l =
+    (chunks_exact_size l.rule-iterator ≡ 8)
+    × (used l.page + 70 * (length (chunks_exact_rest l.rule-iterator) / 8) ≤ 70 * l.count)

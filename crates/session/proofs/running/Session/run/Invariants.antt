@@ -1,13 +1,11 @@
-use Rattle.std.proofs.Common.{◌≡◌, ◌-◌, ◌≤◌, length, drop}
+use Rattle.std.proofs.Common.{◌≡◌, ◌+◌, ◌≤◌, length, drop}
+use Rattle.std.specs.Slice.Iter.{split_inclusive_rest}
 use Rattle.session.proofs.running.Session.run.Given as goal
 
--- what is written lies within the output, and the bytes after it are as they were
+-- no more lines are done than bytes were read; what is written lies within the output, and the bytes after it are as they were
 abbrev pub invariant-lines : goal.invariant-lines
 invariant-lines l =
-    (l.lines ≤ l.at)
+    (l.done.lines + length (split_inclusive_rest l.line-iterator) ≤ length l.input)
     × (length l.output ≡ length l.initial.output)
-    × (l.written ≤ length l.initial.output)
-    × (drop l.written l.output ≡ drop l.written l.initial.output)
-
-abbrev pub decreases-lines : goal.decreases-lines
-decreases-lines l = length l.input - l.at
+    × (l.done.written ≤ length l.initial.output)
+    × (drop l.done.written l.output ≡ drop l.done.written l.initial.output)

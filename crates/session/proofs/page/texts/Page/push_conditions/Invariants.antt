@@ -1,7 +1,7 @@
 use Rattle.std.proofs.Common.{◌≡◌, ◌+◌, ◌*◌, ◌≤◌, ◌++◌, drop}
 use Rattle.session.specs.Pages.{text_of, used}
 use Rattle.session.specs.Texts.{conditions}
-use Rattle.session.proofs.page.Page.push_conditions.Given as goal
+use Rattle.session.proofs.page.texts.Page.push_conditions.Given as goal
 
 abbrev pub invariant-features : goal.invariant-features
 invariant-features l =
