@@ -10,7 +10,7 @@ const OUTPUT: usize = 65_536;
 // One byte more than a session reads, so that an input that is too long is seen to be so.
 const INPUT: u64 = 65_537;
 
-fn run(rt: &HostRuntime) -> anyhow::Result<()> {
+fn main(rt: HostRuntime) -> anyhow::Result<()> {
     let heap = rt.alloc();
     let mut input = Vec::new(heap);
     rt.stdin().take(INPUT).read_to_end(&mut input)?;
@@ -20,18 +20,12 @@ fn run(rt: &HostRuntime) -> anyhow::Result<()> {
     let written = match answer {
         Ok(done) => done.written,
         Err(Refusal::Output { written, .. }) => written,
+        // a session refuses nothing else, and 0 needs no proof of that, as `unreachable!` would
         Err(_) => 0,
     };
-    if let Some(text) = output.get(0..written) {
-        rt.stdout().write_all(text)?;
-    }
+    rt.stdout().write_all(&output[..written])?;
     if let Err(refusal) = answer {
-        let number = refusal.number();
-        println!(rt; "! {number}")?;
+        println!(rt; "! {}", refusal.number())?;
     }
     Ok(())
-}
-
-fn main(rt: HostRuntime) -> anyhow::Result<()> {
-    run(&rt)
 }
