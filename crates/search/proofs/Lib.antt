@@ -19,3 +19,4 @@ pub mod Steps
 pub mod Ties
 pub mod Walks
 pub mod Writes
+pub mod Zipped

@@ -15,23 +15,28 @@ pub record Writing (all ahead : List (List ℕ)) (old out : List ℕ) (at : ℕ)
   pub front : take at out ++ row ahead ≡ row all
   pub after : drop at out ≡ drop at old
 
-module _ (all ahead : List (List ℕ)) (old out p : List ℕ) (at k : ℕ) (eight : k ≡ 8) (long : length p ≡ 8) (room : at + 8 ≤ length out) (so_far : Writing all (p ∷ ahead) old out at) where
-  pub writing_more : Writing all ahead old (put_mid at k out p) (at + 8)
-  writing_more = record {
-    count = let c = so_far.count in omega arith;
-    front = ap (λ (xs : List ℕ). xs ++ row ahead) (take-put_mid at k out p (at + 8) (omega arith) (omega arith)) ∙ append_assoc (take at out) p (row ahead) ∙ so_far.front;
-    after = drop-put_mid at k out p (at + 8) (omega arith) (omega arith) (omega arith)
-        ∙ sym (drop-drop 8 at out)
-        ∙ ap (drop 8) so_far.after
-        ∙ drop-drop 8 at old;
-  }
+-- one rule more; k is 8, as the checker reads `[at..at + 8]`
+module _ (all before ahead : List (List ℕ)) (old out p : List ℕ) (at : ℕ) (step : before ≡ p ∷ ahead) (so_far : Writing all before old out at) (room : 8 * length all ≤ length old) (same : length out ≡ length old) where
+  -- there is room for it
+  pub room_left : at + 8 ≤ length out
+  room_left = let n = so_far.count in let m = ap length step in omega arith
+
+  pub writing_more : (k : ℕ) → k ≡ 8 → length p ≡ 8 → Writing all ahead old (put_mid at k out p) (at + 8)
+  writing_more k eight long =
+      let fits : at + 8 ≤ length out = room_left in
+      let less = ap length step in
+      let c = so_far.count in
+      record {
+        count = omega arith;
+        front = ap (λ (xs : List ℕ). xs ++ row ahead) (take-put_mid at k out p (at + 8) (omega arith) (omega arith)) ∙ append_assoc (take at out) p (row ahead) ∙ ap (λ (ps : List (List ℕ)). take at out ++ row ps) (sym step) ∙ so_far.front;
+        after = drop-put_mid at k out p (at + 8) (omega arith) (omega arith) (omega arith)
+            ∙ sym (drop-drop 8 at out)
+            ∙ ap (drop 8) so_far.after
+            ∙ drop-drop 8 at old;
+      }
 
 pub writing_none : (all ahead : List (List ℕ)) (old : List ℕ) → ahead ≡ all → Writing all ahead old old 0
 writing_none all ahead old whole = record { count = let same = ap length whole in omega arith; front = ap row whole; after = refl }
-
--- there is room for one rule more
-pub room_left : (all ahead : List (List ℕ)) (p old out : List ℕ) (at : ℕ) → Writing all (p ∷ ahead) old out at → 8 * length all ≤ length old → length out ≡ length old → at + 8 ≤ length out
-room_left all ahead p old out at so_far room same = let n = so_far.count in omega arith
 
 pub writing_all : (all : List (List ℕ)) (old out : List ℕ) (at : ℕ) → Writing all [] old out at → out ≡ row all ++ drop (8 * length all) old
 writing_all all old out at done =

@@ -8,7 +8,8 @@ use super::heads::known_head;
 use super::survey::Survey;
 use model::{Head, Kind, Log, Refusal, Sense, Shape};
 
-// Fills rule memory with the optimal rules, eight bytes each, in rising order; the answer is their number.
+// Fills rule memory with the optimal rules, eight bytes each, in rising order; the answer is their number. Head and sense
+// stand apart, since a forecast has a head and both senses.
 pub fn list<K: Kind, L: Log>(
     shape: &Shape,
     log: &L,

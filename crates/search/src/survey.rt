@@ -3,7 +3,7 @@ ghost use Rattle.std.specs.Prelude.{◌≤◌, vec_len, vec_capacity};
 
 use super::bodies::State;
 
-// A state that was shown, and whether it was shown with the head's value.
+// A state that was shown, and whether it was shown with the head's value: two facts of it, and no Option.
 #[derive(Clone, Copy)]
 pub(crate) struct Seen {
     pub(crate) state: State,

@@ -20,7 +20,8 @@ impl<'a, K: Kind> Bodies<'a, K> {
             .count() as u32
     }
 
-    // The largest weight among the optimal rules that match a state; none where no rule matches.
+    // The largest weight among the optimal rules that match a state; none where no rule matches. A loop, since `max` is
+    // specified by what it is not below, and the definition goes from rule to rule.
     pub(crate) fn best_weight(
         &self,
         seen: &[Seen],

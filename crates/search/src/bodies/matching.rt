@@ -11,22 +11,23 @@ impl<'a, K: Kind> Bodies<'a, K> {
     pub(crate) fn matches(&self, body: &Codes, state: &State) -> bool
         ensures { result ≡ matches K.Kind.meaning self.now.sizes.now body.now state.now }
     {
-        'features: for (i, size) in self.sizes.iter().enumerate() {
-            if !K::holds(*size, body[i], state[i]) {
+        'features: for ((size, code), value) in self.sizes.iter().zip(body).zip(state) {
+            if !K::holds(*size, *code, *value) {
                 return false;
             }
         }
         true
     }
 
-    // Whether the rule matches no state against: left at the first one that matches.
+    // Whether the rule matches no state against: loops over states and features, left by a label at the first state that
+    // matches, with a flag, since a loop that is left has no value.
     pub(crate) fn is_clear(&self, opposed: &[State], body: &Codes) -> bool
         ensures { result ≡ clear K.Kind.meaning self.now.sizes.now opposed.now body.now }
     {
         let mut none = true;
         'rows: for row in opposed {
-            'features: for (i, size) in self.sizes.iter().enumerate() {
-                if !K::holds(*size, body[i], row[i]) {
+            'features: for ((size, code), value) in self.sizes.iter().zip(body).zip(row) {
+                if !K::holds(*size, *code, *value) {
                     continue 'rows;
                 }
             }

@@ -10,7 +10,8 @@ use model::Kind;
 pub(crate) type Near = [[bool; 8]; 8];
 
 impl<'a, K: Kind> Bodies<'a, K> {
-    // The feature whose condition is the only one that does not hold of the state, left at the second such one.
+    // The feature whose condition is the only one that does not hold of the state, left at the second such one. By
+    // index, which is the answer.
     fn lone_miss(&self, body: &Codes, state: &State) -> Option<usize>
         ensures { MatchOption result ((i : ℕ) → Lone K.Kind.meaning self.now.sizes.now body.now state.now (length self.now.sizes.now) i → ⊥) (Lone K.Kind.meaning self.now.sizes.now body.now state.now (length self.now.sizes.now)) }
     {

@@ -41,8 +41,8 @@ impl<'a, K: Kind> Bodies<'a, K> {
         ensures { result ≡ tight K.Kind.meaning self.now.sizes.now opposed.now body.now }
     {
         let near = self.near_misses(opposed, body);
-        'features: for (i, size) in self.sizes.iter().enumerate() {
-            if loosens::<K>(*size, &near[i], body[i]) {
+        'features: for ((size, code), near) in self.sizes.iter().zip(body).zip(&near) {
+            if loosens::<K>(*size, near, *code) {
                 return false;
             }
         }

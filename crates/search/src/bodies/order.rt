@@ -7,7 +7,8 @@ ghost use Rattle.search.specs.Walks.{Standing, alike, left};
 use super::{Bodies, Codes};
 use model::Kind;
 
-// The next body in rising order; after the last one false, with every condition open again.
+// The next body in rising order; after the last one false, with every condition open again. A bool, and no Option of a
+// body, since it goes by the ends of one slice, which it leaves in place.
 fn advance<K: Kind>(sizes: &[u8], body: &mut [u8]) -> bool
     requires { Body K.Kind.meaning sizes.now body.old }
     ensures { Advanced K.Kind.meaning sizes.now body.old body.new result }

@@ -9,7 +9,7 @@ ghost use Rattle.search.specs.Scans.{StrayIn};
 use super::super::bodies::State;
 use model::{Log, Shape, Stray};
 
-// The cells of a row, read once.
+// The cells of a row, read once. A loop, since no proof was found of `array::from_fn` over the calls of a log.
 pub(crate) fn cells_of<L: Log>(log: &L, row: usize) -> [u8; 12]
     requires { row < length (L.Log.rows log.now) }
     ensures { result ≡ (slice_index_or (L.Log.rows log.now) row no_row).cells }

@@ -11,7 +11,7 @@ use super::{Seen, Survey};
 use model::{Head, Log, Shape, Stray};
 use std::alloc::{AllocError, Global};
 
-// Where a state stands among those seen.
+// Where a state stands among those seen: a list is searched, since no listing allocates.
 fn find(seen: &[Seen], state: &State) -> Option<usize>
     ensures { MatchOption result (Unseen seen.now state.now (length seen.now)) (SeenAt seen.now state.now) }
 {
@@ -35,6 +35,7 @@ impl Survey {
     {
         let target = usize::from(head.target);
         self.seen.clear();
+        // By position, since that is how a log answers.
         'rows: for row in 0..log.count() {
             let cells = cells_of(log, row);
             scan(shape, row, &cells)?;

@@ -1,27 +1,49 @@
-use Rattle.std.proofs.Common.{◌≡◌, ℕ, length, sym, ap, ◌∙◌, arith, rules}
-use Rattle.model.specs.Rules.{each_below}
-use Rattle.model.specs.Below.{each_below_more, each_below_fails}
-use Rattle.search.proofs.Firm.{firm_at, firm_tight}
+use Rattle.std.proofs.Common.{◌≡◌, ℕ, Bool, ◌&&◌, List, [], length, sym, ap, ◌∙◌, arith, rules}
+use Rattle.search.specs.Misses.{firm}
+use Rattle.search.proofs.Firm.{firm_tight}
+use Rattle.search.proofs.Zipped.{passes, passes_first, passes_none, all_ended}
 use Rattle.search.proofs.bodies.Bodies.is_tight.Goals as goal
 
 pub returns-then-loosens : goal.returns-then-loosens
 returns-then-loosens g c =
     let m = g.K.Kind.meaning in
     let ns = c.args.self.now.sizes.now in
-    let near = c.near_misses-near.result in
-    sym (each_below_fails (length ns) c.features.i (firm_at m ns near c.args.body.now) (search rules) (sym c.if-loosens.ensures))
-    ∙ firm_tight m ns c.args.opposed.now g.met.K.Kind.lawful c.args.self.now.lawful.2 c.args.body.now (search rules) (search rules) c.requires near c.near_misses-near.ensures
+    let firm_by : ℕ → ℕ → List Bool → Bool = λ n c near. firm m n near c in
+    let table : c.into_iter-size-iterator.result.b.rest.now ≡ c.near_misses-near.result = search rules in
+    let step = c.in-Some.ensures.steps in
+    sym
+    (sym c.features.invariant.4
+    ∙ passes_first firm_by [] _ _ _ _ _ _ _ _ _ step.0.0 step.0.1 step.1
+    ∙ ap (λ (t : Bool). t && passes firm_by [] c.next.new.self.a.a.rest.now c.next.new.self.a.b.rest.now c.next.new.self.b.rest.now) (sym c.if-loosens.ensures))
+    ∙ ap (passes firm_by [] ns c.args.body.now) table
+    ∙ firm_tight m ns c.args.opposed.now g.met.K.Kind.lawful c.args.self.now.lawful.2 c.args.body.now (search rules) (search rules) c.requires c.near_misses-near.result c.near_misses-near.ensures
 
 pub features-preserved : goal.features-preserved
 features-preserved g c =
-    each_below_more c.features.i (firm_at g.K.Kind.meaning c.args.self.now.sizes.now c.near_misses-near.result c.args.body.now) c.features.invariant (sym c.if-loosens.ensures)
+    let m = g.K.Kind.meaning in
+    let firm_by : ℕ → ℕ → List Bool → Bool = λ n c near. firm m n near c in
+    let step = c.in-Some.ensures.steps in
+    let sizes = ap length step.0.0 in
+    let codes = ap length step.0.1 in
+    let rows = ap length step.1 in (
+      ((tt, tt), tt),
+      tt,
+      omega (arith, c.features.invariant.2),
+      omega (arith, c.features.invariant.3),
+      sym
+          (passes_first firm_by [] _ _ _ _ _ _ _ _ _ step.0.0 step.0.1 step.1
+          ∙ ap (λ (t : Bool). t && passes firm_by [] c.next.new.self.a.a.rest.now c.next.new.self.a.b.rest.now c.next.new.self.b.rest.now) (sym c.if-loosens.ensures))
+          ∙ c.features.invariant.4,
+    )
 
 pub returns : goal.returns
 returns g c =
     let m = g.K.Kind.meaning in
     let ns = c.args.self.now.sizes.now in
-    let near = c.near_misses-near.result in
-    let done : c.features.i ≡ length ns = omega arith in
-    sym c.features.invariant
-    ∙ ap (λ (n : ℕ). each_below n (firm_at m ns near c.args.body.now)) done
-    ∙ firm_tight m ns c.args.opposed.now g.met.K.Kind.lawful c.args.self.now.lawful.2 c.args.body.now (search rules) (search rules) c.requires near c.near_misses-near.ensures
+    let firm_by : ℕ → ℕ → List Bool → Bool = λ n c near. firm m n near c in
+    let table : c.into_iter-size-iterator.result.b.rest.now ≡ c.near_misses-near.result = search rules in
+    passes_none firm_by [] _ _ _
+    (all_ended {Z = _} {A = _} {B = _} {C = _} {P = λ x. x ≡ c.features.size-iterator.a.a} {Q = λ x. x ≡ c.features.size-iterator.a.b} {R = λ x. x ≡ c.features.size-iterator.b} _ _ _ c.in-None.ensures.steps c.features.invariant.2 c.features.invariant.3)
+    ∙ c.features.invariant.4
+    ∙ ap (passes firm_by [] ns c.args.body.now) table
+    ∙ firm_tight m ns c.args.opposed.now g.met.K.Kind.lawful c.args.self.now.lawful.2 c.args.body.now (search rules) (search rules) c.requires c.near_misses-near.result c.near_misses-near.ensures

@@ -1,5 +1,4 @@
-use Rattle.std.proofs.Common.{ℕ, ◌+◌, ◌-◌, List, [], ◌∷◌, sym, ap, ◌∙◌, subst, arith, rules}
-use borrow.Rule.Slice.PartMut.{put_mid}
+use Rattle.std.proofs.Common.{ℕ, ◌+◌, ◌-◌, List, [], ap, ◌∙◌, subst, arith, rules}
 use Rattle.search.specs.Walks.{to_find, places}
 use Rattle.search.specs.declared.rules.Rules.{Rules}
 use Rattle.search.proofs.Writes.{Writing, room_left, writing_none, writing_more, writing_all}
@@ -16,45 +15,23 @@ rules-init g c =
     )
 
 pub overflow_add-at : goal.overflow_add-at
-overflow_add-at g c =
-    let m = g.K.Kind.meaning in
-    let all = places m c.args.self.now.sizes.now c.args.opposed.now in
-    let next = c.next.new.self in
-    let so_far : Writing all (c.in-Some.rule ∷ to_find m next.bodies.now.sizes.now next.opposed.now next.next) c.args.rules.now c.rules.rules c.rules.at =
-    subst (λ (ps : List (List ℕ)). Writing all ps c.args.rules.now c.rules.rules c.rules.at) c.in-Some.ensures.steps c.rules.invariant.2 in
-    let room = room_left all (to_find m next.bodies.now.sizes.now next.opposed.now next.next) c.in-Some.rule c.args.rules.now c.rules.rules c.rules.at so_far c.requires c.rules.auto.rules in
-    search rules
+overflow_add-at g c = let room = room_left _ _ _ _ _ _ _ c.in-Some.ensures.steps c.rules.invariant.2 c.requires c.rules.auto.rules in search rules
 
 pub slice_bounds-copy_from_slice-end : goal.slice_bounds-copy_from_slice-end
-slice_bounds-copy_from_slice-end g c =
-    let m = g.K.Kind.meaning in
-    let all = places m c.args.self.now.sizes.now c.args.opposed.now in
-    let next = c.next.new.self in
-    let so_far : Writing all (c.in-Some.rule ∷ to_find m next.bodies.now.sizes.now next.opposed.now next.next) c.args.rules.now c.rules.rules c.rules.at =
-    subst (λ (ps : List (List ℕ)). Writing all ps c.args.rules.now c.rules.rules c.rules.at) c.in-Some.ensures.steps c.rules.invariant.2 in
-    let room = room_left all (to_find m next.bodies.now.sizes.now next.opposed.now next.next) c.in-Some.rule c.args.rules.now c.rules.rules c.rules.at so_far c.requires c.rules.auto.rules in
-    search rules
+slice_bounds-copy_from_slice-end g c = let room = room_left _ _ _ _ _ _ _ c.in-Some.ensures.steps c.rules.invariant.2 c.requires c.rules.auto.rules in search rules
 
 pub rules-preserved : goal.rules-preserved
 rules-preserved g c =
-    let m = g.K.Kind.meaning in
-    let all = places m c.args.self.now.sizes.now c.args.opposed.now in
-    let next = c.next.new.self in
-    let ahead = to_find m next.bodies.now.sizes.now next.opposed.now next.next in
-    let at = c.rules.at in
-    let so_far : Writing all (c.in-Some.rule ∷ ahead) c.args.rules.now c.rules.rules at =
-    subst (λ (ps : List (List ℕ)). Writing all ps c.args.rules.now c.rules.rules at) c.in-Some.ensures.steps c.rules.invariant.2 in
-    let room = room_left all ahead c.in-Some.rule c.args.rules.now c.rules.rules at so_far c.requires c.rules.auto.rules in
-    let more = writing_more all ahead c.args.rules.now c.rules.rules c.in-Some.rule at (at + 8 - at) (omega arith) (search rules) room so_far in (
+    let at = c.rules.at in (
       tt,
       tt,
-      subst (λ (p : List ℕ). Writing all ahead c.args.rules.now (put_mid at (at + 8 - at) c.rules.rules p) (at + 8)) (sym c.copy_from_slice.ensures.after) more,
+      rw c.copy_from_slice.ensures.after
+          (writing_more _ _ _ _ _ _ _ c.in-Some.ensures.steps c.rules.invariant.2 c.requires c.rules.auto.rules (at + 8 - at) (omega arith) (search rules)),
     )
 
 pub returns : goal.returns
 returns g c =
-    let m = g.K.Kind.meaning in
-    let all = places m c.args.self.now.sizes.now c.args.opposed.now in
+    let all = places g.K.Kind.meaning c.args.self.now.sizes.now c.args.opposed.now in
     let done : Writing all [] c.args.rules.now c.rules.rules c.rules.at =
     subst (λ (ps : List (List ℕ)). Writing all ps c.args.rules.now c.rules.rules c.rules.at) c.in-None.ensures.steps.0 c.rules.invariant.2 in
     writing_all all c.args.rules.now c.rules.rules c.rules.at done
