@@ -1,5 +1,6 @@
 // What a book of the exchange's messages answers.
 ghost use Rattle.std.specs.Prelude.{◌≡◌, IfOk, IfErr};
+ghost use Rattle.book.specs.Keeps.{Keeps};
 ghost use Rattle.logs.specs.Packed.{shown};
 ghost use Rattle.exchange.specs.Answers.{rules_for_discard, AreForecasts, NotAnswered};
 ghost use Rattle.exchange.specs.Deciding.{deciding_state};
@@ -24,8 +25,7 @@ pub struct Answers {
 
 // Asks a book for both.
 pub fn ask(heap: Global, book: &mut Book<Exact, PackedLog>) -> Result<Answers, Trouble>
-    ensures shape { book.new.shape ≡ book.old.shape }
-    ensures log { book.new.log ≡ book.old.log }
+    ensures kept { Keeps book.old book.new }
     ensures rules { IfOk result (λ a. a.rules.items ≡ rules_for_discard book.old.shape (shown book.old.log.bytes.items)) }
     ensures forecasts { IfOk result (λ a. AreForecasts book.old.shape (shown book.old.log.bytes.items) STATES a.forecasts.items) }
     ensures trouble { IfErr result (NotAnswered book.old.shape (shown book.old.log.bytes.items)) }

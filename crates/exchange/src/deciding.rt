@@ -5,6 +5,7 @@ ghost use Rattle.exchange.specs.Deciding.{matching as matched_by, tells_apart as
 use super::messages::State;
 use super::rule::Rule;
 
+// Rules and a state, and no struct of both: three short functions, of which one is asked from outside.
 // How many of the rules match a state.
 fn matching(rules: &[Rule], state: State) -> usize
     ensures { result ≡ matched_by rules.now state }

@@ -1,5 +1,6 @@
 // The forecasts of a discard.
 ghost use Rattle.std.specs.Prelude.{◌≡◌, Some, MatchResult, Err};
+ghost use Rattle.book.specs.Keeps.{Keeps};
 ghost use Rattle.logs.specs.Packed.{shown};
 ghost use Rattle.exchange.specs.Answers.{ForetoldAt, IsForecast, AreForecasts, NotForetold};
 ghost use Rattle.exchange.specs.Texts.{forecast_text};
@@ -45,8 +46,7 @@ impl fmt::Display for Forecast {
 
 // The forecast at a state.
 fn forecast_at(book: &mut Book<Exact, PackedLog>, state: State) -> Result<Forecast, Refusal>
-    ensures shape { book.new.shape ≡ book.old.shape }
-    ensures log { book.new.log ≡ book.old.log }
+    ensures kept { Keeps book.old book.new }
     ensures answer { MatchResult result (λ f. (f.state ≡ state) × IsForecast book.old.shape (shown book.old.log.bytes.items) f) (λ e. ForetoldAt book.old.shape (shown book.old.log.bytes.items) state (Err e)) }
 {
     let (pro, contra, percentage) = book.forecast(DISCARDED, &state.values())?;
@@ -63,8 +63,7 @@ pub(crate) fn forecast_all(
     heap: Global,
     book: &mut Book<Exact, PackedLog>,
 ) -> Result<Vec<Forecast>, Trouble>
-    ensures shape { book.new.shape ≡ book.old.shape }
-    ensures log { book.new.log ≡ book.old.log }
+    ensures kept { Keeps book.old book.new }
     ensures answer { MatchResult result (λ v. AreForecasts book.old.shape (shown book.old.log.bytes.items) STATES v.items) (NotForetold book.old.shape (shown book.old.log.bytes.items)) }
 {
     let mut forecasts = Vec::new(heap);

@@ -3,6 +3,8 @@
 
 mod answers;
 mod deciding;
+#[cfg(test)]
+mod examples;
 mod forecasts;
 mod listing;
 mod making;

@@ -1,6 +1,7 @@
 // The rules for a discard, as a book lists them.
 ghost use Rattle.std.specs.Prelude.{◌≡◌, map, take, IfOk, MatchResult};
 ghost use Rattle.std.specs.Simd.{first_chunks};
+ghost use Rattle.book.specs.Keeps.{Keeps};
 ghost use Rattle.logs.specs.Packed.{shown};
 ghost use Rattle.exchange.specs.Answers.{rules_for_discard, NotListed};
 ghost use Rattle.exchange.specs.Rules.{rule_of};
@@ -27,8 +28,7 @@ fn read(heap: Global, memory: &[u8; 64], count: usize) -> Result<Vec<Rule>, Allo
 
 // Every optimal rule for a discard.
 pub(crate) fn list(heap: Global, book: &mut Book<Exact, PackedLog>) -> Result<Vec<Rule>, Trouble>
-    ensures shape { book.new.shape ≡ book.old.shape }
-    ensures log { book.new.log ≡ book.old.log }
+    ensures kept { Keeps book.old book.new }
     ensures answer { MatchResult result (λ v. v.items ≡ rules_for_discard book.old.shape (shown book.old.log.bytes.items)) (NotListed book.old.shape (shown book.old.log.bytes.items)) }
 {
     let mut memory = [0; 64];

@@ -8,7 +8,7 @@ use std::alloc::AllocError;
 use std::error::Error;
 use std::fmt;
 
-// Want of memory, or a call that the book refused.
+// Want of memory, or a call that the book refused. A type of its own, for its words.
 #[derive(Clone, Copy, PartialEq, Eq, Debug)]
 pub enum Trouble {
     Memory,

@@ -1,0 +1,41 @@
+// A book of the exchange's messages, asked whole.
+use super::{Answers, CLASS, DAY, Forecast, MESSAGES, Rule, STATES, ask, new_book};
+use model::Exact;
+use std::test::Fail;
+
+// Either sign alone tells of a discard; where only one of them stands, as much speaks for it as against.
+#[test]
+fn both_signs_and_what_would_decide(rt: HostRuntime) -> Result<(), Fail> {
+    let heap = rt.alloc();
+    let mut book = new_book::<Exact>(heap)?;
+    for message in MESSAGES.iter() {
+        book.note(CLASS, DAY, message)?;
+    }
+    let Answers { rules, forecasts } = ask(heap, &mut book)?;
+    let busy = Rule {
+        busy: Some(true),
+        wrapped: None,
+    };
+    let wrapped = Rule {
+        busy: None,
+        wrapped: Some(true),
+    };
+    assert_eq!(rt; rules.as_slice(), [wrapped, busy].as_slice());
+    let wanted = [(0, 1, 0), (1, 1, 50), (1, 1, 50), (1, 0, 100)];
+    for (forecast, (state, told)) in forecasts.iter().zip(STATES.iter().zip(&wanted)) {
+        let (pro, contra, percentage) = *told;
+        assert_eq!(rt;
+            *forecast,
+            Forecast {
+                state: *state,
+                pro,
+                contra,
+                percentage,
+            }
+        );
+    }
+    assert_eq!(rt; forecasts.len(), 4);
+    let answers = Answers { rules, forecasts };
+    assert_eq!(rt; answers.deciding_state(), Some(STATES[1]));
+    Ok(())
+}
