@@ -4,7 +4,8 @@ ghost use Rattle.agreement.specs.Alike.{SameListing};
 
 use model::Refusal;
 
-// Whether two listings answered the same, with the same rules at the front of rule memory.
+// Whether two listings answered the same, with the same rules at the front of rule memory: what stands beyond them does not
+// count, so the memories are not compared whole.
 pub(crate) fn same_listing(
     one: Result<u32, Refusal>,
     other: Result<u32, Refusal>,

@@ -16,7 +16,8 @@ fn cells_of(state: &[u8; 8], outcome: &[u8; 8]) -> [u8; 12]
     cells
 }
 
-// The row of an observation, with 0 in the cells beyond the shape; none where it may not be noted.
+// The row of an observation, with 0 in the cells beyond the shape; none where it may not be noted. Its class, day and cells
+// stand apart, as the public call takes them.
 fn row_of(shape: &Shape, class: u16, day: u16, cells: &[u16]) -> Option<Row>
     ensures { MatchOption result (Notable shape.now class day cells.now → ⊥) (λ row. Notable shape.now class day cells.now × (row ≡ noted_row shape.now class day cells.now)) }
 {

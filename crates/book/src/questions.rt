@@ -11,7 +11,8 @@ use super::book::Book;
 use model::{Head, Kind, Log, Refusal, Sense};
 
 impl<K: Kind + Drop, L: Log + Drop> Book<K, L> {
-    // Fills rule memory with every optimal rule of a head and a sense; the answer is their number.
+    // Fills rule memory with every optimal rule of a head and a sense; the answer is their number. Head and sense stand apart,
+    // since a forecast has a head and both senses.
     pub fn list(&mut self, head: Head, sense: Sense, rules: &mut [u8]) -> Result<u32, Refusal>
         ensures kept { Keeps self.old self.new }
         ensures answer { Listed K.Kind.meaning self.old.shape (L.Log.rows self.old.log) head (found K.Kind.meaning self.old.shape (L.Log.rows self.old.log) head sense) rules.old rules.new result }

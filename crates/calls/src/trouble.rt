@@ -5,7 +5,7 @@ ghost use Rattle.calls.specs.declared.trouble.Trouble.TheVariants.{Memory as no_
 use model::Refusal;
 use std::alloc::AllocError;
 
-// Want of memory, or a refusal.
+// Want of memory, or a refusal. It has no words of its own, since a C program is told of it in numbers.
 #[derive(Clone, Copy)]
 pub(crate) enum Trouble {
     Memory,

@@ -10,7 +10,8 @@ ghost use Rattle.calls.specs.Called.{head_of, sense_of};
 use calls::Answer;
 use std::alloc::Global;
 
-// Lists the optimal rules of a head and a sense over an image, by band or by exact conditions. In C:
+// Lists the optimal rules of a head and a sense over an image, by band or by exact conditions. Its parameters are plain
+// numbers and bools, since a C program passes them, and it stands beside the call of `calls`, which Rattle code links. In C:
 //   struct answer rulebook_list(bool band, const uint8_t *image, size_t image_length, uint16_t target, uint16_t value,
 //                               bool cannot, uint8_t *rules, size_t rules_length);
 #[unsafe(no_mangle)]

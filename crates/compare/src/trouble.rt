@@ -4,7 +4,7 @@ use std::alloc::AllocError;
 use std::error::Error;
 use std::fmt;
 
-// Want of memory, or a call that was refused.
+// Want of memory, or a call that was refused. A type of its own, for its words.
 #[derive(Debug, Drop)]
 pub(crate) enum Trouble {
     Memory,

@@ -1,5 +1,6 @@
 // What a condition kind is: for each size from 2 up to a largest, conditions on one value, coded from 0.
 // An `impl` gives its meaning and proves that it keeps the four laws, and that each call answers as the meaning has it.
+// Sizes, codes and values are plain numbers, as they stand in images and in rule memory.
 ghost use Rattle.std.specs.Prelude.{◌≡◌, ◌&&◌, nat_le};
 ghost use Rattle.model.specs.Kinds.{Meaning, Laws};
 

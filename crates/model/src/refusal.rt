@@ -39,7 +39,7 @@ pub enum Refusal {
 }
 
 impl Refusal {
-    // The published number.
+    // The published number: no discriminant, since some refusals carry values.
     pub fn number(self) -> u8
         ensures { result ≡ number_of self }
     {

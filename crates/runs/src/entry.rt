@@ -4,7 +4,7 @@ use model::{Head, Refusal, Sense};
 // None where the call has not been made.
 #[derive(Clone, Copy)]
 pub enum Entry<'a> {
-    // answered by the number of rows then shown
+    // answered by the number of rows then shown; class, day and cells as the public call takes them
     Note {
         class: u16,
         day: u16,

@@ -2,7 +2,8 @@
 ghost use Rattle.std.specs.Option.{MatchOption};
 ghost use Rattle.session.specs.Lines.{Runs, Begins, NoNumber};
 
-// The digits that a text begins with: the number that they write, if it is not too large, and how many there are.
+// The digits that a text begins with: the number that they write, if it is not too large, and how many there are. By hand,
+// since `parse` takes a sign, and does not tell where the digits end.
 fn read_digits(text: &[u8]) -> Option<(u16, usize)>
     ensures { MatchOption result (NoNumber text.now) (λ x. Runs text.now x.0 x.1) }
 {

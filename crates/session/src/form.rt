@@ -8,7 +8,7 @@ pub(crate) enum Form<'a> {
     Features(&'a [u16]),
     // `T` and the sizes of the targets
     Targets(&'a [u16]),
-    // `N`, class, day and cells
+    // `N`, class, day and cells, as a book is asked to note them
     Note {
         class: u16,
         day: u16,

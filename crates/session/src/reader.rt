@@ -55,7 +55,8 @@ fn read_ask(text: &[u8], numbers: &mut Numbers) -> Option<(Head, Sense)>
     Some((Head { target, value }, sense))
 }
 
-// The form of a line: its first character picks one, and the rest has to be of it.
+// The form of a line: its first character picks one, and the rest has to be of it. A match on characters, as the format names
+// them.
 pub(crate) fn read<'a>(line: &[u8], numbers: &'a mut Numbers) -> Option<Form<'a>>
     requires { Short line.now }
     ensures { MatchOption result (NoLine line.now) (λ f. Says line.now (line_of f)) }

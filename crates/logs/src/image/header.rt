@@ -6,7 +6,7 @@ use super::HEADER;
 use model::Shape;
 use std::array;
 
-// The sizes, with 0 for each place beyond them.
+// The sizes, with 0 for each place beyond them. `model` has one of its own, for numbers that become bytes.
 fn padded<const N: usize>(sizes: &[u8]) -> [u8; N]
     ensures { result ≡ padded N sizes.now }
 {

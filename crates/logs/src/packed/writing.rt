@@ -7,7 +7,7 @@ use super::super::image::places::{places, used};
 use super::super::image::{HEADER, ROW};
 use model::{Refusal, Row};
 
-// The sixteen bytes of a row: the class, a 0, the day, and the cells.
+// The sixteen bytes of a row: the class, a 0, the day, and the cells. No From: a row and an array are both of other crates.
 fn packed(row: Row) -> [u8; ROW]
     ensures { result ≡ bytes_of row }
 {
