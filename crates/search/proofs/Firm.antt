@@ -1,9 +1,10 @@
 -- What the near misses of a clear rule tell: whether a weaker condition leaves it clear. Assumes nothing.
-use Rattle.std.proofs.Common.{◌≡◌, ℕ, ◌<◌, ◌≤◌, Bool, true, false, not, ◌&&◌, eqb, ◌≢◌, List, [], length, get_or, set, Decides, sym, refl, ap, ◌∙◌, inl, inr, arith}
-use Rattle.std.specs.List.{ContainsAt as Has, AllByRecursion}
+use Rattle.std.proofs.Common.{◌≡◌, ℕ, zero, suc, ◌<◌, ◌≤◌, Bool, true, false, not, ◌&&◌, eqb, ◌≢◌, List, [], length, get_or, set, take, drop, Decides, sym, refl, ap, ◌∙◌, inl, inr, arith}
+use Rattle.std.specs.List.{ContainsAt as Has, AllByRecursion, list_all}
 use Rattle.std.proofs.ByRecursion.{All-get_or}
-use Rattle.std.proofs.lemmas.List.{get_or-set_same, get_or-set_other}
-use Rattle.std.proofs.lemmas.Bool.{cases_Bool, cases_eq}
+use Rattle.std.proofs.lemmas.List.{get_or-set_same, get_or-set_other, take-append-drop}
+use Rattle.std.proofs.lemmas.List.Folds.{list_all-append}
+use Rattle.std.proofs.lemmas.Bool.{cases_Bool, cases_eq, and_parts, and_from}
 use Rattle.std.proofs.lemmas.Bool.Decides.{same_from_decides, Decides-and, Decides-not, Decides-like, Decides-below_and}
 use Rattle.model.specs.Kinds.{Meaning, Laws}
 use Rattle.model.specs.Optimal.{Matches}
@@ -13,12 +14,19 @@ use Rattle.model.specs.Below.{each_below_same}
 use Rattle.model.proofs.Passing.{all_decides}
 use Rattle.model.proofs.Ties.{matches_decides}
 use Rattle.model.proofs.Weakening.{at_each_set}
-use Rattle.search.specs.Misses.{meets, Lone, Missed, Noted, spares, firm}
+use Rattle.search.specs.Misses.{meets, Lone, Missed, Noted, spares, firm, firm_all}
 use Rattle.search.specs.Opposing.{clear, tight}
 
 -- each weaker condition of a rule on feature i lets a near miss in
 abbrev pub firm_at : Meaning → List ℕ → List (List Bool) → List ℕ → ℕ → Bool
 firm_at m ns near b i = firm m (get_or ns i 0) (get_or near i []) (get_or b i 0)
+
+-- a test that gives another gives it below a bound
+each_below_kept : (n : ℕ) (test other : ℕ → Bool) → each_below n test ≡ true → ((k : ℕ) → k < n → test k ≡ true → other k ≡ true) → each_below n other ≡ true
+each_below_kept zero test other all gives = refl
+each_below_kept (suc n) test other all gives =
+    let parts = and_parts (test n) (each_below n test) all in
+    and_from (other n) (each_below n other) (gives n (omega arith) parts.0) (each_below_kept n test other parts.1 (λ k h. gives k (omega arith)))
 
 module _ (m : Meaning) (ns : List ℕ) (opposed : List (List ℕ)) where
   clear_decides : (b : List ℕ) → Decides (clear m ns opposed b) ((v : List ℕ) → Has opposed v → Matches m ns b v → ⊥)
@@ -70,3 +78,25 @@ module _ (m : Meaning) (ns : List ℕ) (opposed : List (List ℕ)) where
         each_below_same (length ns) _ _
         (λ i within. each_below_same (m.conditions (get_or ns i 0)) _ _
         (λ c _. ap (λ (t : Bool). not ((not (eqb c (get_or b i 0)) && m.weaker (get_or ns i 0) c (get_or b i 0)) && t)) (spares_clear i c within)))
+
+-- the first states against tell already that a clear rule is tight, where their near misses do
+module _ (m : Meaning) (ns : List ℕ) (opposed : List (List ℕ)) (n : ℕ) where
+  clear_first : (b : List ℕ) → clear m ns opposed b ≡ true → clear m ns (take n opposed) b ≡ true
+  clear_first b clears =
+      let missed : List ℕ → Bool = λ v. not (matches m ns b v) in
+      (and_parts (list_all missed (take n opposed)) (list_all missed (drop n opposed)) (sym (list_all-append missed (take n opposed) (drop n opposed)) ∙ ap (list_all missed) (take-append-drop n opposed) ∙ clears)).0
+
+  still_not : (w t u : Bool) → (u ≡ true → t ≡ true) → not (w && t) ≡ true → not (w && u) ≡ true
+  still_not false t u from none = refl
+  still_not true t false from none = refl
+  still_not true true true from none = none
+  still_not true false true from none = from refl
+
+  tight_first : (b : List ℕ) → tight m ns (take n opposed) b ≡ true → tight m ns opposed b ≡ true
+  tight_first b first =
+      each_below_kept (length ns) _ _ first
+      (λ i _ here. each_below_kept (m.conditions (get_or ns i 0)) _ _ here
+      (λ c _ none. still_not (not (eqb c (get_or b i 0)) && m.weaker (get_or ns i 0) c (get_or b i 0)) (clear m ns (take n opposed) (set b i c)) (clear m ns opposed (set b i c)) (clear_first (set b i c)) none))
+
+  pub firm_first : Laws m → AllByRecursion Size ns → (b : List ℕ) → length ns ≤ length b → length ns ≤ 8 → clear m ns opposed b ≡ true → (near : List (List Bool)) → Noted m ns (take n opposed) b near → firm_all m ns near b ≡ true → tight m ns opposed b ≡ true
+  firm_first laws sized b long few clears near noted firm = tight_first b (sym (firm_tight m ns (take n opposed) laws sized b long few (clear_first b clears) near noted) ∙ firm)

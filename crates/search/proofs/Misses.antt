@@ -110,3 +110,21 @@ module _ (m : Meaning) (ns b : List ℕ) where
               ]
               | inr k ↦ beside i x feature small (λ both. k both.0)
             ]
+
+-- a table of eight rows of eight places has the near misses among the first n states
+abbrev pub Table : Meaning → List ℕ → List ℕ → List (List ℕ) → ℕ → List (List Bool) → Type 0
+Table m ns b opposed n near = (length near ≡ 8) × AllByRecursion (λ r. length r ≡ 8) near × Noted m ns (take n opposed) b near
+
+-- a state more that only the condition on feature i keeps out: its place is set, where its value has one
+pub table_more : (m : Meaning) (ns b : List ℕ) (opposed : List (List ℕ)) (n i : ℕ) (near after : List (List Bool)) → n < length opposed → length ns ≤ 8 → Table m ns b opposed n near → Lone m ns b (get_or opposed n []) (length ns) i
+    → ◌⊎◌ ((y : ℕ) × (y < 8) × (y ≡ get_or (get_or opposed n []) i 0) × (after ≡ set near i (set (get_or near i []) y true))) ((8 ≤ get_or (get_or opposed n []) i 0) × (after ≡ near))
+    → Table m ns b opposed (n + 1) after
+table_more m ns b opposed n i near after within few table lone (inl placed) =
+    let place : i < 8 = omega (arith, lone.within) in
+    let there : i < length near = omega (arith, table.0) in
+    subst (Table m ns b opposed (n + 1)) (sym placed.3) (
+      length-set near i (set (get_or near i []) placed.0 true) ∙ table.0,
+      eights_noting near i placed.0 there table.1,
+      noted_more_miss m ns b opposed near n [] within table.2 i lone table.0 (All-get_or (λ r. length r ≡ 8) near i [] there table.1) placed.0 place placed.1 placed.2,
+    )
+table_more m ns b opposed n i near after within few table lone (inr large) = subst (Table m ns b opposed (n + 1)) (sym large.1) (table.0, table.1, noted_more_large m ns b opposed near n [] within table.2 i lone large.0)

@@ -37,3 +37,7 @@ module _ (m : Meaning) (size : ℕ) (near : List Bool) where
   -- each weaker condition than a code lets a near miss in
   abbrev pub firm : ℕ → Bool
   firm code = each_below (m.conditions size) (λ c. not (frees code c))
+
+-- each weaker condition of a rule, on whichever feature, lets a near miss of that table in
+abbrev pub firm_all : Meaning → List ℕ → List (List Bool) → List ℕ → Bool
+firm_all m ns near b = each_below (length ns) (λ i. firm m (slice_index ns i) (slice_index_or near i []) (slice_index b i))

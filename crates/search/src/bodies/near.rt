@@ -1,6 +1,7 @@
 // The near misses of a rule: the states against that a single condition of it keeps out.
-ghost use Rattle.std.specs.Prelude.{◌≡◌, ℕ, length, MatchOption};
-ghost use Rattle.search.specs.Misses.{Lone, Noted};
+ghost use Rattle.std.specs.Prelude.{◌≡◌, ℕ, true, length, MatchOption};
+ghost use Rattle.search.specs.Misses.{Lone, firm_all};
+ghost use Rattle.search.specs.Opposing.{clear, tight};
 
 use super::{Bodies, Codes, State};
 use model::Kind;
@@ -8,6 +9,9 @@ use model::Kind;
 // For each feature, which values have the near misses that the condition there keeps out. Values of 8 or more need no
 // place, since no condition holds of them.
 pub(crate) type Near = [[bool; 8]; 8];
+
+// How many states against are looked at before the near misses among them are asked for the first time.
+const FIRST_TRY: usize = 32;
 
 impl<'a, K: Kind> Bodies<'a, K> {
     // The feature whose condition is the only one that does not hold of the state, left at the second such one. By
@@ -27,19 +31,29 @@ impl<'a, K: Kind> Bodies<'a, K> {
         miss
     }
 
-    // The values of the near misses.
-    pub(crate) fn near_misses(&self, opposed: &[State], body: &Codes) -> Near
-        ensures { Noted K.Kind.meaning self.now.sizes.now opposed.now body.now result }
+    // Whether no single condition of a consistent rule can be weakened: each weaker condition has to let a near miss in.
+    // The states against are looked at in turn; those so far are asked now and then, each time after twice as many as
+    // before, since where they tell that the rule is optimal no more need be looked at.
+    pub(crate) fn is_tight(&self, opposed: &[State], body: &Codes) -> bool
+        requires { clear K.Kind.meaning self.now.sizes.now opposed.now body.now ≡ true }
+        ensures { result ≡ tight K.Kind.meaning self.now.sizes.now opposed.now body.now }
     {
-        let mut near = [[false; 8]; 8];
-        'rows: for row in opposed {
+        let mut near: Near = [[false; 8]; 8];
+        let mut try_at = FIRST_TRY;
+        'rows: for (at, row) in opposed.iter().enumerate() {
             let Some(i) = self.lone_miss(body, row) else {
                 continue 'rows;
             };
             if row[i] < 8 {
                 near[i][usize::from(row[i])] = true;
             }
+            if at >= try_at {
+                if self.is_firm(&near, body) {
+                    return true;
+                }
+                try_at = at.saturating_mul(2);
+            }
         }
-        near
+        self.is_firm(&near, body)
     }
 }

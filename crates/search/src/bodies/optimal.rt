@@ -1,9 +1,9 @@
-// Whether a consistent rule is optimal: weakening any single condition makes it inconsistent.
-ghost use Rattle.std.specs.Prelude.{◌≡◌, true, not};
-ghost use Rattle.search.specs.Misses.{spares, firm};
-ghost use Rattle.search.specs.Opposing.{clear, tight};
+// What near misses tell of a rule: whether each weaker condition lets one of them in.
+ghost use Rattle.std.specs.Prelude.{◌≡◌, not};
+ghost use Rattle.search.specs.Misses.{spares, firm, firm_all};
 
-use super::{Bodies, Codes, State};
+use super::near::Near;
+use super::{Bodies, Codes};
 use model::Kind;
 
 // Whether a condition holds of none of the near misses of its feature.
@@ -34,14 +34,11 @@ fn loosens<K: Kind>(size: u8, near: &[bool; 8], code: u8) -> bool
 }
 
 impl<'a, K: Kind> Bodies<'a, K> {
-    // Whether no single condition of a consistent rule can be weakened: one look at the states against finds its near
-    // misses, and each weaker condition has to let one of them in.
-    pub(crate) fn is_tight(&self, opposed: &[State], body: &Codes) -> bool
-        requires { clear K.Kind.meaning self.now.sizes.now opposed.now body.now ≡ true }
-        ensures { result ≡ tight K.Kind.meaning self.now.sizes.now opposed.now body.now }
+    // Whether each weaker condition than those of a rule lets a near miss in.
+    pub(super) fn is_firm(&self, near: &Near, body: &Codes) -> bool
+        ensures { result ≡ firm_all K.Kind.meaning self.now.sizes.now near.now body.now }
     {
-        let near = self.near_misses(opposed, body);
-        'features: for ((size, code), near) in self.sizes.iter().zip(body).zip(&near) {
+        'features: for ((size, code), near) in self.sizes.iter().zip(body).zip(near) {
             if loosens::<K>(*size, near, *code) {
                 return false;
             }

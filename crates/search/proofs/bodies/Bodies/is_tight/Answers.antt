@@ -1,49 +1,47 @@
-use Rattle.std.proofs.Common.{◌≡◌, ℕ, Bool, ◌&&◌, List, [], length, sym, ap, ◌∙◌, arith, rules}
-use Rattle.search.specs.Misses.{firm}
-use Rattle.search.proofs.Firm.{firm_tight}
-use Rattle.search.proofs.Zipped.{passes, passes_first, passes_none, all_ended}
+use Rattle.std.proofs.Common.{ℕ, ◌+◌, List, [], sym, refl, ◌∙◌, subst, inl, inr, arith, rules}
+use Rattle.std.proofs.lemmas.List.{take_all}
+use Rattle.search.specs.Misses.{Noted}
+use Rattle.search.proofs.Firm.{firm_tight, firm_first}
+use Rattle.search.proofs.Misses.{noted_none, noted_more_beside, table_more}
 use Rattle.search.proofs.bodies.Bodies.is_tight.Goals as goal
+use Rattle.search.proofs.bodies.Bodies.is_tight.Goals.{then-row-i-lt8, else-row-i-lt8}
 
-pub returns-then-loosens : goal.returns-then-loosens
-returns-then-loosens g c =
+pub rows-init : goal.rows-init
+rows-init g c = (refl, search rules, noted_none g.K.Kind.meaning c.args.self.now.sizes.now c.args.body.now)
+
+pub rows-preserved-in_default : goal.rows-preserved-in_default
+rows-preserved-in_default g c = (
+  c.rows.invariant.0,
+  c.rows.invariant.1,
+  noted_more_beside g.K.Kind.meaning c.args.self.now.sizes.now c.args.body.now c.args.opposed.now c.rows.near c.rows.at [] c.rows-test.true c.rows.invariant.2 c.in_default.ensures,
+)
+
+pub rows-preserved : goal.rows-preserved
+rows-preserved g c =
+    table_more g.K.Kind.meaning c.args.self.now.sizes.now c.args.body.now c.args.opposed.now c.rows.at c.in-Some.i c.rows.near _ c.rows-test.true c.args.self.now.lawful.1 c.rows.invariant c.in-Some.ensures
+    (elim c.if-row-i-lt8.branch [
+      | then-row-i-lt8 w ↦ inl (w.from.result, omega (arith, w.if-row-i-lt8.true, w.from.ensures), w.from.ensures, w.near-is)
+      | else-row-i-lt8 w ↦ inr (w.if-row-i-lt8.false, w.near-is)
+    ])
+
+pub returns-then-is_firm : goal.returns-then-is_firm
+returns-then-is_firm g c =
     let m = g.K.Kind.meaning in
     let ns = c.args.self.now.sizes.now in
-    let firm_by : ℕ → ℕ → List Bool → Bool = λ n c near. firm m n near c in
-    let table : c.into_iter-size-iterator.result.b.rest.now ≡ c.near_misses-near.result = search rules in
-    let step = c.in-Some.ensures.steps in
-    sym
-    (sym c.features.invariant.4
-    ∙ passes_first firm_by [] _ _ _ _ _ _ _ _ _ step.0.0 step.0.1 step.1
-    ∙ ap (λ (t : Bool). t && passes firm_by [] c.next.new.self.a.a.rest.now c.next.new.self.a.b.rest.now c.next.new.self.b.rest.now) (sym c.if-loosens.ensures))
-    ∙ ap (passes firm_by [] ns c.args.body.now) table
-    ∙ firm_tight m ns c.args.opposed.now g.met.K.Kind.lawful c.args.self.now.lawful.2 c.args.body.now (search rules) (search rules) c.requires c.near_misses-near.result c.near_misses-near.ensures
-
-pub features-preserved : goal.features-preserved
-features-preserved g c =
-    let m = g.K.Kind.meaning in
-    let firm_by : ℕ → ℕ → List Bool → Bool = λ n c near. firm m n near c in
-    let step = c.in-Some.ensures.steps in
-    let sizes = ap length step.0.0 in
-    let codes = ap length step.0.1 in
-    let rows = ap length step.1 in (
-      ((tt, tt), tt),
-      tt,
-      omega (arith, c.features.invariant.2),
-      omega (arith, c.features.invariant.3),
-      sym
-          (passes_first firm_by [] _ _ _ _ _ _ _ _ _ step.0.0 step.0.1 step.1
-          ∙ ap (λ (t : Bool). t && passes firm_by [] c.next.new.self.a.a.rest.now c.next.new.self.a.b.rest.now c.next.new.self.b.rest.now) (sym c.if-loosens.ensures))
-          ∙ c.features.invariant.4,
-    )
+    let b = c.args.body.now in
+    let opposed = c.args.opposed.now in
+    let table =
+    table_more m ns b opposed c.rows.at c.in-Some.i c.rows.near c.if-row-i-lt8.near c.rows-test.true c.args.self.now.lawful.1 c.rows.invariant c.in-Some.ensures
+    (elim c.if-row-i-lt8.branch [
+      | then-row-i-lt8 w ↦ inl (w.from.result, omega (arith, w.if-row-i-lt8.true, w.from.ensures), w.from.ensures, w.near-is)
+      | else-row-i-lt8 w ↦ inr (w.if-row-i-lt8.false, w.near-is)
+    ]) in
+    sym (firm_first m ns opposed (c.rows.at + 1) g.met.K.Kind.lawful c.args.self.now.lawful.2 b (search rules) (search rules) c.requires c.if-row-i-lt8.near table.2 (sym c.if-is_firm.ensures))
 
 pub returns : goal.returns
 returns g c =
     let m = g.K.Kind.meaning in
     let ns = c.args.self.now.sizes.now in
-    let firm_by : ℕ → ℕ → List Bool → Bool = λ n c near. firm m n near c in
-    let table : c.into_iter-size-iterator.result.b.rest.now ≡ c.near_misses-near.result = search rules in
-    passes_none firm_by [] _ _ _
-    (all_ended {Z = _} {A = _} {B = _} {C = _} {P = λ x. x ≡ c.features.size-iterator.a.a} {Q = λ x. x ≡ c.features.size-iterator.a.b} {R = λ x. x ≡ c.features.size-iterator.b} _ _ _ c.in-None.ensures.steps c.features.invariant.2 c.features.invariant.3)
-    ∙ c.features.invariant.4
-    ∙ ap (passes firm_by [] ns c.args.body.now) table
-    ∙ firm_tight m ns c.args.opposed.now g.met.K.Kind.lawful c.args.self.now.lawful.2 c.args.body.now (search rules) (search rules) c.requires c.near_misses-near.result c.near_misses-near.ensures
+    let opposed = c.args.opposed.now in
+    let noted = subst (λ (vs : List (List ℕ)). Noted m ns vs c.args.body.now c.rows.near) (take_all c.rows.at opposed c.rows-test.false) c.rows.invariant.2 in
+    c.is_firm-2.ensures ∙ firm_tight m ns opposed g.met.K.Kind.lawful c.args.self.now.lawful.2 c.args.body.now (search rules) (search rules) c.requires c.rows.near noted
