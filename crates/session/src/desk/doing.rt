@@ -1,5 +1,6 @@
 // Doing what a line says, and answering it on the page.
-ghost use Rattle.std.specs.Prelude.{◌≡◌, ◌*◌, ◌≤◌, OnErr};
+ghost use Rattle.std.specs.Prelude.{◌≡◌, ◌*◌, ◌≤◌, OnErr, MatchOption};
+ghost use Rattle.session.specs.Desks.{LeavesStored};
 ghost use Rattle.session.specs.Pages.{used, Blank};
 
 use super::super::form::Form;
@@ -9,7 +10,9 @@ use model::{Head, Refusal, Sense, Shape};
 
 impl Desk {
     // Puts on the page what a line prints: its answer, or its refusal.
-    pub(crate) fn answer(&mut self, form: Option<Form<'_>>) {
+    pub(crate) fn answer(&mut self, form: Option<Form<'_>>)
+        ensures { MatchOption form.entry (self.new.stored ≡ self.old.stored) (λ f. LeavesStored f self.old self.new) }
+    {
         self.page.clear();
         let done = match form {
             Some(form) => self.obey(form),
@@ -23,7 +26,8 @@ impl Desk {
     // Does what a form says. A refusal prints nothing.
     fn obey(&mut self, form: Form<'_>) -> Result<(), Refusal>
         requires { Blank self.old.page }
-        ensures { OnErr result (Blank self.new.page) }
+        ensures blank { OnErr result (Blank self.new.page) }
+        ensures stored { LeavesStored form.entry self.old self.new }
     {
         match form {
             Form::Features(sizes) => {
@@ -51,7 +55,8 @@ impl Desk {
 
     // Notes an observation.
     fn note(&mut self, class: u16, day: u16, cells: &[u16]) -> Result<(), Refusal>
-        ensures { self.new.page ≡ self.old.page }
+        ensures page { self.new.page ≡ self.old.page }
+        ensures stored { self.new.stored ≡ self.old.stored }
     {
         self.shelf.book()?.note(class, day, cells)?;
         Ok(())
@@ -60,7 +65,8 @@ impl Desk {
     // Lists the optimal rules of a head and a sense, and their number.
     fn list(&mut self, head: Head, sense: Sense) -> Result<(), Refusal>
         requires { Blank self.old.page }
-        ensures { OnErr result (Blank self.new.page) }
+        ensures blank { OnErr result (Blank self.new.page) }
+        ensures stored { self.new.stored ≡ self.old.stored }
     {
         let book = self.shelf.book()?;
         let count = book.list(head, sense, self.rules.as_mut_slice())?;
@@ -73,7 +79,8 @@ impl Desk {
     fn print_rules(&mut self, head: Head, sense: Sense, count: u32)
         requires room { 8 * count ≤ 65536 }
         requires blank { Blank self.old.page }
-        ensures { used self.new.page ≤ 70 * count }
+        ensures used { used self.new.page ≤ 70 * count }
+        ensures stored { self.new.stored ≡ self.old.stored }
     {
         let Desk { rules, page, .. } = self;
         'rules: for rule in rules[..8 * count as usize].chunks_exact(8) {
@@ -84,7 +91,8 @@ impl Desk {
     // Forecasts an outcome for a state.
     fn forecast(&mut self, head: Head, state: &[u16]) -> Result<(), Refusal>
         requires { Blank self.old.page }
-        ensures { OnErr result (Blank self.new.page) }
+        ensures blank { OnErr result (Blank self.new.page) }
+        ensures stored { self.new.stored ≡ self.old.stored }
     {
         let (pro, contra, percentage) = self.shelf.book()?.forecast(head, state)?;
         self.page.print_forecast(pro, contra, percentage);
