@@ -21,7 +21,7 @@ fn answers<'a, I: Iterator<Item = &'a [u16; 3]> + Drop>(
     for message in messages {
         book.note(CLASS, DAY, message)?;
     }
-    ask(heap, &mut book)
+    Ok(ask(&mut book)?)
 }
 
 fn print_answers(rt: &HostRuntime, found: &Answers, backwards: &Answers) -> io::Result<()> {

@@ -14,18 +14,15 @@ use Rattle.exchange.specs.declared.messages.TheConstants.{STATES, DISCARDED}
 use Rattle.exchange.specs.declared.forecasts.Forecast.{Forecast}
 use Rattle.exchange.specs.declared.messages.State.{State}
 use Rattle.exchange.specs.declared.rule.Rule.{Rule}
-use Rattle.exchange.specs.declared.trouble.Trouble.{Trouble}
-use Rattle.exchange.specs.declared.trouble.Trouble.TheVariants.{Memory, Refused}
 
 module _ (s : Shape) (rows : List Row) where
   -- every optimal rule for a discard
   abbrev pub rules_for_discard : List Rule
   rules_for_discard = map rule_of (rules_of exact s rows DISCARDED Can)
 
-  -- why they are not listed: want of memory, or the refusal of a listing into 64 bytes
-  abbrev pub NotListed : Trouble → Type 0
-  NotListed Memory = Unit {0}
-  NotListed (Refused e) = RefusedList exact s rows DISCARDED (rules_of exact s rows DISCARDED Can) (replicate 64 0) e
+  -- why they are not listed: the refusal of a listing into 64 bytes
+  abbrev pub NotListed : Refusal → Type 0
+  NotListed e = RefusedList exact s rows DISCARDED (rules_of exact s rows DISCARDED Can) (replicate 64 0) e
 
   -- what a book answers when it is asked for the forecast of a discard at a state
   pub record ForetoldAt (state : State) (r : Result (ℕ × ℕ × ℕ) Refusal) : Type 0 where
@@ -40,11 +37,10 @@ module _ (s : Shape) (rows : List Row) where
     pub at : map (λ f. f.state) fs ≡ states
     pub told : All IsForecast fs
 
-  -- why there are no forecasts: want of memory, or the refusal of a forecast at one of the states
-  abbrev pub NotForetold : Trouble → Type 0
-  NotForetold Memory = Unit {0}
-  NotForetold (Refused e) = Any (λ state. ForetoldAt state (Err e)) STATES
+  -- why there are no forecasts: the refusal of a forecast at one of the states
+  abbrev pub NotForetold : Refusal → Type 0
+  NotForetold e = Any (λ state. ForetoldAt state (Err e)) STATES
 
   -- why a book answers nothing
-  abbrev pub NotAnswered : Trouble → Type 0
-  NotAnswered t = NotListed t ⊎ NotForetold t
+  abbrev pub NotAnswered : Refusal → Type 0
+  NotAnswered e = NotListed e ⊎ NotForetold e

@@ -10,28 +10,27 @@ use super::forecasts::{Forecast, forecast_all};
 use super::listing::list;
 use super::messages::{STATES, State};
 use super::rule::Rule;
-use super::trouble::Trouble;
+use arrayvec::ArrayVec;
 use book::Book;
 use logs::PackedLog;
-use model::Exact;
-use std::alloc::Global;
+use model::{Exact, Refusal};
 
 // The rules for a discard, and the forecast of a discard at each state.
 #[derive(PartialEq, Drop)]
 pub struct Answers {
-    pub rules: Vec<Rule>,
-    pub forecasts: Vec<Forecast>,
+    pub rules: ArrayVec<Rule, 8>,
+    pub forecasts: ArrayVec<Forecast, 4>,
 }
 
 // Asks a book for both.
-pub fn ask(heap: Global, book: &mut Book<Exact, PackedLog>) -> Result<Answers, Trouble>
+pub fn ask(book: &mut Book<Exact, PackedLog>) -> Result<Answers, Refusal>
     ensures kept { Keeps book.old book.new }
     ensures rules { IfOk result (λ a. a.rules.items ≡ rules_for_discard book.old.shape (shown book.old.log.bytes.items)) }
     ensures forecasts { IfOk result (λ a. AreForecasts book.old.shape (shown book.old.log.bytes.items) STATES a.forecasts.items) }
-    ensures trouble { IfErr result (NotAnswered book.old.shape (shown book.old.log.bytes.items)) }
+    ensures refused { IfErr result (NotAnswered book.old.shape (shown book.old.log.bytes.items)) }
 {
-    let rules = list(heap, book)?;
-    let forecasts = forecast_all(heap, book)?;
+    let rules = list(book)?;
+    let forecasts = forecast_all(book)?;
     Ok(Answers { rules, forecasts })
 }
 

@@ -11,7 +11,7 @@ fn both_signs_and_what_would_decide(rt: HostRuntime) -> Result<(), Fail> {
     for message in MESSAGES.iter() {
         book.note(CLASS, DAY, message)?;
     }
-    let Answers { rules, forecasts } = ask(heap, &mut book)?;
+    let Answers { rules, forecasts } = ask(&mut book)?;
     let busy = Rule {
         busy: Some(true),
         wrapped: None,

@@ -6,16 +6,15 @@ ghost use Rattle.exchange.specs.Answers.{ForetoldAt, IsForecast, AreForecasts, N
 ghost use Rattle.exchange.specs.Texts.{forecast_text};
 
 use super::messages::{DISCARDED, STATES, State};
-use super::trouble::Trouble;
+use arrayvec::ArrayVec;
 use book::Book;
 use logs::PackedLog;
 use model::{Exact, Refusal};
-use std::alloc::{AllocError, Global};
 use std::fmt;
 
 // What speaks for and against a discard at a state, and the share for it in percent. It is all or nothing at a state that
 // was seen.
-#[derive(Clone, Copy, PartialEq, Eq, Debug)]
+#[derive(Clone, Copy, PartialEq, Eq, Debug, Default)]
 pub struct Forecast {
     pub state: State,
     pub pro: u32,
@@ -60,16 +59,15 @@ fn forecast_at(book: &mut Book<Exact, PackedLog>, state: State) -> Result<Foreca
 
 // The forecast at each state in turn.
 pub(crate) fn forecast_all(
-    heap: Global,
     book: &mut Book<Exact, PackedLog>,
-) -> Result<Vec<Forecast>, Trouble>
+) -> Result<ArrayVec<Forecast, 4>, Refusal>
     ensures kept { Keeps book.old book.new }
     ensures answer { MatchResult result (λ v. AreForecasts book.old.shape (shown book.old.log.bytes.items) STATES v.items) (NotForetold book.old.shape (shown book.old.log.bytes.items)) }
 {
-    let mut forecasts = Vec::new(heap);
+    let mut forecasts = ArrayVec::new();
     'states: for state in STATES.iter() {
         let forecast = forecast_at(book, *state)?;
-        forecasts.push(forecast).map_err(AllocError::from)?;
+        forecasts.push(forecast);
     }
     Ok(forecasts)
 }

@@ -29,7 +29,7 @@ pub const DISCARDED: Head = Head {
 };
 
 // Whether the supplier was busy, and whether its sequence had just wrapped to zero.
-#[derive(Clone, Copy, PartialEq, Eq, Debug)]
+#[derive(Clone, Copy, PartialEq, Eq, Debug, Default)]
 pub struct State {
     pub busy: bool,
     pub wrapped: bool,

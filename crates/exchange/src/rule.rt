@@ -7,7 +7,7 @@ use super::messages::State;
 use std::fmt;
 
 // What the rule asks of each feature; none where it asks nothing.
-#[derive(Clone, Copy, PartialEq, Eq, Debug)]
+#[derive(Clone, Copy, PartialEq, Eq, Debug, Default)]
 pub struct Rule {
     pub busy: Option<bool>,
     pub wrapped: Option<bool>,

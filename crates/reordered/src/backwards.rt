@@ -80,8 +80,10 @@ fn alike<K: Kind + Drop>(one: &mut Book<K, PackedLog>, other: &mut Book<K, Packe
 pub(crate) fn agreed<K: Kind + Drop>(heap: Global) -> Result<Tally, Trouble> {
     let mut forwards: Book<K, PackedLog> = new_book(heap)?;
     let mut backwards: Book<K, PackedLog> = new_book(heap)?;
-    fill(heap, &mut forwards, MESSAGES.iter())?;
-    fill(heap, &mut backwards, MESSAGES.iter().rev())?;
+    let mut reversed = MESSAGES;
+    reversed.reverse();
+    fill(&mut forwards, &MESSAGES);
+    fill(&mut backwards, &reversed);
     let fed_backwards = alike(&mut forwards, &mut backwards);
     backwards.note(CLASS, DAY, &[1, 0, 1])?;
     let after_one_more = alike(&mut forwards, &mut backwards);

@@ -1,12 +1,9 @@
 // Noting the exchange's messages in a run of calls.
-ghost use Rattle.std.specs.Iterator.{IsFinite};
-
 use book::Book;
-use exchange::{CLASS, DAY, Trouble};
+use exchange::{CLASS, DAY};
 use logs::PackedLog;
 use model::Kind;
 use runs::{Entry, run};
-use std::alloc::Global;
 
 fn is_accepted(note: &Entry<'_>) -> bool {
     matches!(
@@ -18,23 +15,17 @@ fn is_accepted(note: &Entry<'_>) -> bool {
     )
 }
 
-// Notes the messages in their order, and answers how many were accepted.
-pub(crate) fn fill<'a, K: Kind + Drop, I: Iterator<Item = &'a [u16; 3]> + Drop>(
-    heap: Global,
+// Notes messages in their order, and answers how many were accepted. An array, so that no memory is got for it.
+pub(crate) fn fill<K: Kind + Drop>(
     book: &mut Book<K, PackedLog>,
-    messages: I,
-) -> Result<usize, Trouble>
-    requires can { I.can_next messages }
-    requires finite { IsFinite (I.remaining messages) }
-{
-    let mut notes: Vec<Entry<'a>> = messages
-        .map(|cells| Entry::Note {
-            class: CLASS,
-            day: DAY,
-            cells,
-            answer: None,
-        })
-        .collect(heap)?;
+    messages: &[[u16; 3]; 6],
+) -> usize {
+    let mut notes = messages.each_ref().map(|cells| Entry::Note {
+        class: CLASS,
+        day: DAY,
+        cells,
+        answer: None,
+    });
     run(book, &mut notes, &mut []);
-    Ok(notes.iter().filter(|note| is_accepted(note)).count())
+    notes.iter().filter(|note| is_accepted(note)).count()
 }

@@ -7,16 +7,24 @@ mod backwards;
 mod filling;
 
 use backwards::agreed;
-use exchange::{Answers, Decision, Listing, MESSAGES, ask, new_book};
+use exchange::{Answers, Decision, Listing, MESSAGES, Trouble, ask, new_book};
 use filling::fill;
 use model::{Band, Exact};
+use std::alloc::Global;
 use std::io;
+
+// How many messages a new book accepts, and what it answers then. The book's memory goes with it.
+fn answers(heap: Global) -> Result<(usize, Answers), Trouble> {
+    let mut book = new_book(heap)?;
+    let accepted = fill(&mut book, &MESSAGES);
+    Ok((accepted, ask(&mut book)?))
+}
 
 fn print_answers(rt: &HostRuntime, accepted: usize, found: &Answers) -> io::Result<()> {
     println!(rt; "Messages noted: {accepted}")?;
     println!(rt; "Under which conditions does the exchange discard an invoice?")?;
     println!(rt; "{}", Listing(&found.rules))?;
-    for forecast in &found.forecasts {
+    for forecast in found.forecasts.iter() {
         println!(rt; "{forecast}")?;
     }
     println!(rt; "{}", Decision(found.deciding_state()))
@@ -24,11 +32,9 @@ fn print_answers(rt: &HostRuntime, accepted: usize, found: &Answers) -> io::Resu
 
 fn main(rt: HostRuntime) -> anyhow::Result<()> {
     let heap = rt.alloc();
-    let mut book = new_book(heap)?;
-    let accepted = fill(heap, &mut book, MESSAGES.iter())?;
-    let found = ask(heap, &mut book)?;
     let exact = agreed::<Exact>(heap)?;
     let band = agreed::<Band>(heap)?;
+    let (accepted, found) = answers(heap)?;
     print_answers(&rt, accepted, &found)?;
     println!(rt; "By exact conditions, {exact}")?;
     println!(rt; "By bands, {band}")?;

@@ -6,6 +6,6 @@ use Rattle.exchange.proofs.listing.list.Goals as goal
 pub returns-clause-answer : goal.returns-clause-answer
 returns-clause-answer c =
     cc (
-      c.in_ok-read.ensures,
+      c.read.ensures,
       rules_read c.args.book.now.shape (shown c.args.book.now.log.bytes.items) (replicate 64 0) c.list.new.rules c.in_ok-count.count (search rules) (search (rules, c.in_ok-count.ensures.listing)),
     )
