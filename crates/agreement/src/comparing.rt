@@ -56,7 +56,8 @@ pub fn compare<K: Kind + Drop, L: Log + Drop, M: Log + Drop>(
     ensures alike { AllByRecursion (Right K.Kind.meaning first.old.shape second.old.shape (L.Log.rows first.old.log) (M.Log.rows second.old.log) (length left.old) (length right.old)) questions.new }
     ensures law { Law K.Kind.meaning first.old.shape second.old.shape (L.Log.rows first.old.log) (M.Log.rows second.old.log) (length left.old) (length right.old) questions.new }
 {
-    'questions: for asked in questions.iter_mut() {
-        ask(first, second, asked, left, right);
+    // By index, so that an edit of the code shows that no question is left out.
+    'questions: for i in 0..questions.len() {
+        ask(first, second, &mut questions[i], left, right);
     }
 }

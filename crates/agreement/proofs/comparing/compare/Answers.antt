@@ -11,7 +11,7 @@ questions-preserved g c =
 pub returns : goal.returns
 returns g c =
     let so_far = c.questions.invariant in
-    let all = take_all c.questions.asked-index c.questions.questions (search rules) in
+    let all = take_all c.questions.i c.questions.questions (search rules) in
     let alike = rw all at so_far.alike in
     record {
       first = so_far.one.kept;

@@ -13,7 +13,7 @@ pub returns : goal.returns
 returns g c =
     let log = c.args.book.now.log in
     let so_far = c.calls.invariant in
-    let all = take_all c.calls.entry-index c.calls.entries (omega (arith, so_far.long, c.calls-test.false)) in
+    let all = take_all c.calls.i c.calls.entries (omega (arith, so_far.long, c.calls-test.false)) in
     let rows = rw all at so_far.taken in
     let ran = rw all at so_far.ran in
     record {
