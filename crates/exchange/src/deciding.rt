@@ -29,8 +29,8 @@ fn decides(rules: &[Rule], state: State) -> bool
     !state.was_seen() && tells_apart(rules, state)
 }
 
-// The first of some states that decides.
-pub(crate) fn first_deciding(rules: &[Rule], states: &[State]) -> Option<State>
+// The first of some states that decides, for however many rules.
+pub fn first_deciding(rules: &[Rule], states: &[State]) -> Option<State>
     ensures { result ≡ find (decided_by rules.now) states.now }
 {
     states.iter().copied().find(|state| decides(rules, *state))

@@ -1,5 +1,5 @@
 // A book of the exchange's messages, asked whole.
-use super::{Answers, CLASS, DAY, Forecast, MESSAGES, Rule, STATES, ask, new_book};
+use super::{Answers, CLASS, DAY, Forecast, MESSAGES, Rule, STATES, ask, first_deciding, new_book};
 use model::Exact;
 use std::test::Fail;
 
@@ -37,5 +37,23 @@ fn both_signs_and_what_would_decide(rt: HostRuntime) -> Result<(), Fail> {
     assert_eq!(rt; forecasts.len(), 4);
     let answers = Answers { rules, forecasts };
     assert_eq!(rt; answers.deciding_state(), Some(STATES[1]));
+    Ok(())
+}
+
+// Nine rules, more than a book lists: the first eight agree at each state that was not seen, and the ninth differs at both.
+#[test]
+fn nine_rules_that_the_last_tells_apart(rt: HostRuntime) -> Result<(), Fail> {
+    let busy = Rule {
+        busy: Some(true),
+        wrapped: None,
+    };
+    let mut rules = [busy; 9];
+    rules[8] = Rule {
+        busy: None,
+        wrapped: Some(true),
+    };
+    assert_eq!(rt; first_deciding(&rules[..8], &STATES), None);
+    assert_eq!(rt; first_deciding(&rules, &STATES), Some(STATES[1]));
+    assert_eq!(rt; first_deciding(&rules, &STATES[2..]), Some(STATES[2]));
     Ok(())
 }

@@ -14,6 +14,7 @@ mod trouble;
 mod words;
 
 pub use answers::{Answers, ask};
+pub use deciding::first_deciding;
 pub use forecasts::Forecast;
 pub use making::new_book;
 pub use messages::{CLASS, DAY, DISCARDED, MESSAGES, STATES, State};
